@@ -1,0 +1,12 @@
+pub mod Table
+pub mod XorLaws
+pub mod GcrLaws
+pub mod Decode
+pub mod Rendered
+pub mod Damage
+pub mod Shift
+pub mod Cross
+pub mod Moves
+pub mod SimulatedRenders
+pub mod PeriodLaws
+pub mod Theorems

@@ -1,0 +1,162 @@
+-- A capture that renders a word is read as that word, or, where its last run is too long, as no reply.
+-- Assumes nothing.
+use mathlib.Core.Path.{_≡_, sym, subst, refl, ap, _∙_}
+use mathlib.Core.Logic.{_⊎_, inl, inr, ⊎-elim}
+use mathlib.Core.Bool.{Bool, true, false, not}
+use mathlib.Core.List.{List, [], _∷_, _++_, map}
+use Prim.Native.Nat.{ℕ, zero, suc, pred, _+_, _*_, _-_, _/_, _%_, _^_, _<_, _≤_}
+use native.Mathlib.Nat.{mul-comm, le-mul-of-pos-right, mul-assoc, zero-add, add-zero, add-assoc, add-suc, suc-add, add-sub-cancel-left}
+use native.Mathlib.Omega.{arith}
+use borrow.Author.Tests.{ltb-true, ltb-false, lt-ltb, le-ltb, le-leb}
+use lib.Dec.{ltb, leb}
+use lib.Arith.{digits-div}
+use lib.Pow.{pow-add}
+use lib.ListN.{length, take, drop, replicate, length-append, length-replicate}
+use lib.Seq.{drop-at}
+use Rattle.dshot_reply_spec.specs.Answer.{Answer, given, noReply, refused}
+use Rattle.dshot_reply_spec.specs.Render.{Lasts, Renders, Runs, closed-low, open-end, run}
+use Rattle.dshot_reply_spec.specs.Runs.{assemble, finished, firstLow, fromLevels, runBits, runsOf, runsWord, sum}
+
+-- ---- runs of samples
+
+replicate-pos : (l : Bool) (n : ℕ) → 0 < n → replicate n l ≡ l ∷ replicate (pred n) l
+replicate-pos l zero h = absurd (omega arith)
+replicate-pos l (suc n) h = refl
+
+-- a run of samples counts for the bits that it takes up, and has a sample
+lasts-bits : (s k n : ℕ) → 0 < s → Lasts s k n → runBits s n ≡ k
+lasts-bits s k n p h =
+    let e : n + (s - 1) / 2 ≡ k * s + (n + (s - 1) / 2 - s * k) = omega (arith, mul-comm s k) in
+    let d : (n + (s - 1) / 2) / s ≡ k = ap (λ (x : ℕ). x / s) e ∙ digits-div k (omega arith) in
+    omega arith
+
+lasts-some : (s k n : ℕ) → 0 < s → Lasts s k n → 0 < n
+lasts-some s k n p h = omega (arith, le-mul-of-pos-right {m = k} s (h .0))
+
+-- what is read starts at the level of its first run
+starts : (s : ℕ) → 0 < s → {l : Bool} {ks : List ℕ} {ls : List Bool} → Runs s l ks ls → (t : List Bool) × (ls ≡ l ∷ t)
+starts s p (run l k n ks ls h r) = (replicate (pred n) l ++ ls, ap (λ (x : List Bool). x ++ ls) (replicate-pos l n (lasts-some s k n p h)))
+starts s p (open-end l k n h) = (replicate n l, refl)
+starts s p (closed-low k n m h) =
+    (replicate (pred n) false ++ replicate (suc m) true, ap (λ (x : List Bool). x ++ replicate (suc m) true) (replicate-pos false n (lasts-some s k n p h)))
+
+same-level : (l : Bool) (n : ℕ) (ls : List Bool) → finished l n (l ∷ ls) ≡ finished l (suc n) ls
+same-level true n ls = refl
+same-level false n ls = refl
+
+finished-run : (l : Bool) (n m : ℕ) (ls : List Bool) → finished l n (replicate m l ++ ls) ≡ finished l (n + m) ls
+finished-run l n zero ls = rw add-zero
+finished-run l n (suc m) ls = same-level l n (replicate m l ++ ls) ∙ finished-run l (suc n) m ls ∙ ap (λ (x : ℕ). finished l x ls) (suc-add n m ∙ sym (add-suc n m))
+
+finished-edge : (l : Bool) (n : ℕ) (t : List Bool) → finished l n (not l ∷ t) ≡ n ∷ finished (not l) 0 (not l ∷ t)
+finished-edge true n t = refl
+finished-edge false n t = refl
+
+-- a run that an edge closes
+finished-closed : (l : Bool) (n : ℕ) (ls t : List Bool) → ls ≡ not l ∷ t → finished l 0 (replicate n l ++ ls) ≡ n ∷ finished (not l) 0 ls
+finished-closed l n ls t e = finished-run l 0 n ls ∙ rw (e, zero-add) (finished-edge l n t)
+
+append-nil : (ls : List Bool) → ls ++ [] ≡ ls
+append-nil [] = refl
+append-nil (b ∷ ls) = ap (λ (x : List Bool). b ∷ x) (append-nil ls)
+
+finished-open : (l : Bool) (n : ℕ) → finished l 0 (replicate n l) ≡ []
+finished-open l n = ap (finished l 0) (sym (append-nil (replicate n l))) ∙ finished-run l 0 n []
+
+-- ---- the bits of the finished runs are those of the word, all of them or all but the last
+
+abbrev Got : List ℕ → List ℕ → Type 0
+Got ks got = (got ≡ ks) ⊎ ((k : ℕ) × (0 < k) × (got ++ (k ∷ []) ≡ ks))
+
+got-more : (k : ℕ) {ks got : List ℕ} → Got ks got → Got (k ∷ ks) (k ∷ got)
+got-more k (inl e) = inl (ap (λ (x : List ℕ). k ∷ x) e)
+got-more k (inr q) = inr (q .0, q .1, ap (λ (x : List ℕ). k ∷ x) (q .2))
+
+pub runs-got : (s : ℕ) → 0 < s → {l : Bool} {ks : List ℕ} {ls : List Bool} → Runs s l ks ls → Got ks (map (runBits s) (finished l 0 ls))
+runs-got s p (run l k n ks ls h r) = go (starts s p r) (runs-got s p r)
+  where
+    go : (t : List Bool) × (ls ≡ not l ∷ t) → Got ks (map (runBits s) (finished (not l) 0 ls)) → Got (k ∷ ks) (map (runBits s) (finished l 0 (replicate n l ++ ls)))
+    go t g = rw (finished-closed l n ls (t .0) (t .1), lasts-bits s k n p h) (got-more k g)
+runs-got s p (open-end l k n h) = inr (k, h, rw (finished-open l (suc n)))
+runs-got s p (closed-low k n m h) =
+    inl (rw (finished-closed false n (replicate (suc m) true) (replicate m true) refl, finished-open true (suc m), lasts-bits s k n p h))
+
+-- ---- what those bits are assembled to
+
+sum-snoc : (ks : List ℕ) (k : ℕ) → sum (ks ++ (k ∷ [])) ≡ sum ks + k
+sum-snoc [] k = omega arith
+sum-snoc (x ∷ ks) k = omega (arith, sum-snoc ks k)
+
+word-snoc : (ks : List ℕ) (w k : ℕ) → runsWord w (ks ++ (k ∷ [])) ≡ runsWord w ks * 2 ^ k + 2 ^ (k - 1)
+word-snoc [] w k = refl
+word-snoc (x ∷ ks) w k = word-snoc ks (w * 2 ^ x + 2 ^ (x - 1)) k
+
+assemble-whole : (ks : List ℕ) → sum ks ≡ 21 → assemble ks ≡ given (runsWord 0 ks)
+unfolding assemble
+assemble-whole ks e = rw e
+
+assemble-rest : (ks : List ℕ) (k : ℕ) → sum ks + k ≡ 21 → 0 < k → k < 4 → assemble ks ≡ given (runsWord 0 (ks ++ (k ∷ [])))
+unfolding assemble
+assemble-rest ks k e p l =
+    let q : 21 - sum ks ≡ k = omega arith in
+    rw (le-ltb 21 (sum ks) (omega arith), le-ltb (sum ks) 18 (omega arith), lt-ltb (sum ks) 21 (omega arith), q)
+
+assemble-none : (ks : List ℕ) (k : ℕ) → sum ks + k ≡ 21 → 3 < k → assemble ks ≡ refused noReply
+unfolding assemble
+assemble-none ks k e l = rw (le-ltb 21 (sum ks) (omega arith), lt-ltb (sum ks) 18 (omega arith))
+
+-- the word is read, or there is no reply and the word ends in a run of more than three bits
+abbrev pub Read : Answer ℕ → ℕ → Type 0
+Read t w = (t ≡ given w) ⊎ ((t ≡ (refused noReply)) × (w % 8 ≡ 0))
+
+pub lt-or-ge : (a b : ℕ) → (a < b) ⊎ (b ≤ a)
+lt-or-ge a b = go (ltb a b) refl
+  where
+    go : (t : Bool) → ltb a b ≡ t → (a < b) ⊎ (b ≤ a)
+    go true e = inl (ltb-true a b e)
+    go false e = inr (ltb-false a b e)
+
+low-zeros : (x k : ℕ) → 3 < k → (x * 2 ^ k + 2 ^ (k - 1)) % 8 ≡ 0
+low-zeros x k h =
+    let j = k - 4 in
+    let a : 2 ^ k ≡ 2 ^ j * 16 = ap (λ (n : ℕ). 2 ^ n) (omega arith) ∙ pow-add 2 j 4 in
+    let b : 2 ^ (k - 1) ≡ 2 ^ j * 8 = ap (λ (n : ℕ). 2 ^ n) (omega arith) ∙ pow-add 2 j 3 in
+    rw (a, b, ← mul-assoc x (2 ^ j) 16) (omega arith)
+
+got-read : (ks got : List ℕ) (w : ℕ) → sum ks ≡ 21 → runsWord 0 ks ≡ w → Got ks got → Read (assemble got) w
+got-read ks got w s e (inl q) = inl (rw q (assemble-whole ks s ∙ ap given e))
+got-read ks got w s e (inr q) =
+    ⊎-elim
+    (λ l. inl (assemble-rest got (q .0) (sym (sum-snoc got (q .0)) ∙ ap sum (q .2) ∙ s) (q .1) l ∙ ap given (ap (runsWord 0) (q .2) ∙ e)))
+    (λ l. inr (
+      assemble-none got (q .0) (sym (sum-snoc got (q .0)) ∙ ap sum (q .2) ∙ s) l,
+      ap (λ (n : ℕ). n % 8) (sym (sym (word-snoc got 0 (q .0)) ∙ ap (runsWord 0) (q .2) ∙ e)) ∙ low-zeros (runsWord 0 got) (q .0) l,
+    ))
+    (lt-or-ge (q .0) 4)
+
+-- ---- the start
+
+first-low : (n : ℕ) (t : List Bool) → firstLow (replicate n true ++ (false ∷ t)) ≡ n
+first-low zero t = refl
+first-low (suc n) t = ap suc (first-low n t)
+
+-- a capture that renders w is read as w, or as no reply where w ends in too long a run
+pub rendered-read : (s : ℕ) → 0 < s → (ls : List Bool) (w : ℕ) → Renders s ls w → Read (fromLevels s ls) w
+unfolding fromLevels
+rendered-read s p ls w r =
+    rw (r .split, start, back, long) (got-read (r .runs) (runsOf s (take (23 * s) (r .after))) w (r .bits) (r .word) (runs-got s p (r .rendered)))
+  where
+    low : (m : ℕ) (after t : List Bool) (n : ℕ) → take m after ≡ false ∷ t → firstLow (replicate n true ++ after) ≡ n
+    low zero after t n e = absurd (let z : _≡_ {A = ℕ} 0 1 = cc in omega arith)
+    low (suc m) [] t n e = absurd (let z : _≡_ {A = ℕ} 0 1 = cc in omega arith)
+    low (suc m) (true ∷ after) t n e = absurd (let z : _≡_ {A = ℕ} 0 1 = cc in omega arith)
+    low (suc m) (false ∷ after) t n e = first-low n after
+
+    start : firstLow (replicate (r .lead) true ++ r .after) ≡ r .lead
+    start = low (23 * s) (r .after) (starts s p (r .rendered) .0) (r .lead) (starts s p (r .rendered) .1)
+
+    back : drop (r .lead) (replicate (r .lead) true ++ r .after) ≡ r .after
+    back = drop-at (replicate (r .lead) true) (r .after) (r .lead) (length-replicate (r .lead) true)
+
+    long : leb (19 * s) (length (replicate (r .lead) true ++ r .after) - r .lead) ≡ true
+    long = le-leb (19 * s) (length (replicate (r .lead) true ++ r .after) - r .lead) (omega (arith, r .room, length-append (replicate (r .lead) true) (r .after), length-replicate (r .lead) true))

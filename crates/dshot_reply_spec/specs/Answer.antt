@@ -1,0 +1,43 @@
+-- What a call answers: what it was asked for, or the number of its refusal in document 01, and nothing else.
+-- Assumes nothing.
+use Prim.Native.Nat.{ℕ, _≤_}
+use mathlib.Core.Path.{_≡_}
+use mathlib.Core.Bool.{Bool, true, false}
+
+pub data Answer (A : Type 0) : Type 0 where
+  given : A → Answer A
+  refused : ℕ → Answer A
+
+-- what the next step makes of an answer: a refusal stays as it is, as with Rust's `?`
+abbrev pub then : {A B : Type 0} → Answer A → (A → Answer B) → Answer B
+then (given a) next = next a
+then (refused n) next = refused n
+
+-- the first where a test holds, else the second
+abbrev pub pick : {A : Type 0} → Bool → A → A → A
+pick true a b = a
+pick false a b = b
+
+-- ---- document 01's numbers of the refusals of a reply
+
+abbrev pub noReply : ℕ
+noReply = 7
+
+abbrev pub overlong : ℕ
+overlong = 8
+
+abbrev pub invalidSymbol : ℕ
+invalidSymbol = 9
+
+abbrev pub wrongChecksum : ℕ
+wrongChecksum = 10
+
+abbrev pub zeroPeriod : ℕ
+zeroPeriod = 11
+
+-- refused, as a damaged capture is: with one of 7 to 10
+pub record Rejected {A : Type 0} (a : Answer A) : Type 0 where
+  pub number : ℕ
+  pub refusal : a ≡ refused number
+  pub least : 7 ≤ number
+  pub most : number ≤ 10

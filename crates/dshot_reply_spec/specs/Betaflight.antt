@@ -1,0 +1,63 @@
+-- A bidirectional DShot reply as Betaflight's DShot documents describe it, bit by bit as it goes over the wire. Written from what those
+-- documents say, as far as that is known without their text at hand (docs/DIFFERENCES.md), and not from the code.
+-- Assumes nothing.
+use Prim.Native.Nat.{ℕ, suc, _+_, _-_, _*_, _/_, _%_, _^_}
+use mathlib.Core.Bool.{Bool, true, false, not}
+use mathlib.Core.List.{List, [], _∷_, _++_}
+use lib.Dec.{eqb}
+use lib.Bits.{bitXor}
+use lib.ListN.{getD, replicate}
+use Rattle.dshot_reply_spec.specs.Answer.{Answer, given, refused, pick, zeroPeriod}
+use Rattle.dshot_reply_spec.specs.Value.{Reading, erpm}
+
+-- the checksum is inverted: ~(value ^ (value >> 4) ^ (value >> 8)) & 0x0F
+unfoldable pub crc : ℕ → ℕ
+crc v = 15 - bitXor (bitXor v (v / 16)) (v / 256) % 16
+
+-- the GCR table: the five bits that are sent for each nibble, 0 to F, first bit first
+abbrev pub table : List (List ℕ)
+table =
+    (1 ∷ 1 ∷ 0 ∷ 0 ∷ 1 ∷ []) ∷ (1 ∷ 1 ∷ 0 ∷ 1 ∷ 1 ∷ []) ∷ (1 ∷ 0 ∷ 0 ∷ 1 ∷ 0 ∷ []) ∷ (1 ∷ 0 ∷ 0 ∷ 1 ∷ 1 ∷ [])
+    ∷ (1 ∷ 1 ∷ 1 ∷ 0 ∷ 1 ∷ []) ∷ (1 ∷ 0 ∷ 1 ∷ 0 ∷ 1 ∷ []) ∷ (1 ∷ 0 ∷ 1 ∷ 1 ∷ 0 ∷ []) ∷ (1 ∷ 0 ∷ 1 ∷ 1 ∷ 1 ∷ [])
+    ∷ (1 ∷ 1 ∷ 0 ∷ 1 ∷ 0 ∷ []) ∷ (0 ∷ 1 ∷ 0 ∷ 0 ∷ 1 ∷ []) ∷ (0 ∷ 1 ∷ 0 ∷ 1 ∷ 0 ∷ []) ∷ (0 ∷ 1 ∷ 0 ∷ 1 ∷ 1 ∷ [])
+    ∷ (1 ∷ 1 ∷ 1 ∷ 1 ∷ 0 ∷ []) ∷ (0 ∷ 1 ∷ 1 ∷ 0 ∷ 1 ∷ []) ∷ (0 ∷ 1 ∷ 1 ∷ 1 ∷ 0 ∷ []) ∷ (0 ∷ 1 ∷ 1 ∷ 1 ∷ 1 ∷ []) ∷ []
+
+unfoldable pub gcr : ℕ → List ℕ
+gcr n = getD table n []
+
+-- the twenty bits of a 12-bit value: its nibbles, the highest first, and the checksum
+unfoldable pub replyBits : ℕ → List ℕ
+replyBits v = gcr (v / 256) ++ (gcr (v / 16 % 16) ++ (gcr (v % 16) ++ gcr (crc v)))
+
+-- bits as a number, the first the highest, after the bits of w
+abbrev pub numberFrom : ℕ → List ℕ → ℕ
+numberFrom w [] = w
+numberFrom w (b ∷ bs) = numberFrom (2 * w + b) bs
+
+-- the level of the line in each bit: a 1 changes it, a 0 keeps it
+abbrev pub lineFrom : Bool → List ℕ → List Bool
+lineFrom l [] = []
+lineFrom l (b ∷ bs) = pick (eqb b 1) (not l) l ∷ lineFrom (pick (eqb b 1) (not l) l) bs
+
+-- the line idles high and goes low for the start bit; the twenty bits follow
+abbrev pub replyLine : ℕ → List Bool
+replyLine v = false ∷ lineFrom false (replyBits v)
+
+-- a line as s samples of each bit
+abbrev pub sampled : ℕ → List Bool → List Bool
+sampled s [] = []
+sampled s (l ∷ ls) = replicate s l ++ sampled s ls
+
+-- ---- the speed of a 12-bit value eeemmmmmmmmm
+
+-- the period in microseconds is m, shifted left by e
+abbrev pub period : ℕ → ℕ
+period v = v % 512 * 2 ^ (v / 512)
+
+-- the whole number nearest to a / b, halves up
+abbrev pub nearest : ℕ → ℕ → ℕ
+nearest a b = (2 * a + b) / (2 * b)
+
+-- 60 000 000 microseconds a minute, in hundreds: 0xFFF stands for a rotor at rest, and a period of 0 for no speed
+unfoldable pub speed : ℕ → Answer Reading
+speed v = pick (eqb v 0xfff) (given (erpm 0)) (pick (eqb (period v) 0) (refused zeroPeriod) (given (erpm (nearest 600000 (period v)))))

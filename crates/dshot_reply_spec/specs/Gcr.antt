@@ -1,0 +1,68 @@
+-- The GCR code of a reply (document 01; `decode_gcr` and `reply_transitions_for` of dshot_reply.rs): sixteen symbols of five bits, one for
+-- each nibble, the word of four symbols that a value is sent as, and what a word decodes to.
+-- Assumes nothing.
+use Prim.Native.Nat.{ℕ, zero, suc, _+_, _*_, _/_, _%_, _^_}
+use mathlib.Core.Bool.{Bool}
+use mathlib.Core.List.{List, [], _∷_}
+use lib.Dec.{eqb}
+use lib.Bits.{bitXor}
+use lib.ListN.{getD}
+use Rattle.dshot_reply_spec.specs.Answer.{Answer, given, refused, pick, invalidSymbol, wrongChecksum}
+
+-- the symbol of each nibble
+abbrev pub symbols : List ℕ
+symbols = 0x19 ∷ 0x1b ∷ 0x12 ∷ 0x13 ∷ 0x1d ∷ 0x15 ∷ 0x16 ∷ 0x17 ∷ 0x1a ∷ 0x09 ∷ 0x0a ∷ 0x0b ∷ 0x1e ∷ 0x0d ∷ 0x0e ∷ 0x0f ∷ []
+
+abbrev pub symbolOf : ℕ → ℕ
+symbolOf n = getD symbols n 0
+
+-- the place of x in a list whose places are counted from i, or 255
+abbrev pub placeOf : ℕ → ℕ → List ℕ → ℕ
+placeOf x i [] = 255
+placeOf x i (y ∷ ys) = pick (eqb x y) i (placeOf x (suc i) ys)
+
+-- the nibble whose symbol s is, or 255 where s is no symbol
+unfoldable pub nibbleOf : ℕ → ℕ
+nibbleOf s = placeOf s 0 symbols
+
+-- ---- the reply word of a value
+
+-- the checksum of a value: the exclusive or of its three nibbles and the checksum is 0xF
+abbrev pub checksum : ℕ → ℕ
+checksum v = bitXor (bitXor (bitXor (v / 256 % 16) (v / 16 % 16)) (v % 16)) 15
+
+-- the nibbles of a reply: the value's at the places 3 to 1, the highest at 3, and the checksum at 0
+abbrev pub replyNibble : ℕ → ℕ → ℕ
+replyNibble v zero = checksum v
+replyNibble v (suc zero) = v % 16
+replyNibble v (suc (suc zero)) = v / 16 % 16
+replyNibble v (suc (suc (suc p))) = v / 256 % 16
+
+-- a word of four symbols, the highest first, after the 1 of the start edge
+unfoldable pub wordOf : ℕ → ℕ → ℕ → ℕ → ℕ
+wordOf a b c d = (((32 + a) * 32 + b) * 32 + c) * 32 + d
+
+unfoldable pub replyWord : ℕ → ℕ
+replyWord v = wordOf (symbolOf (replyNibble v 3)) (symbolOf (replyNibble v 2)) (symbolOf (replyNibble v 1)) (symbolOf (replyNibble v 0))
+
+-- ---- what a word decodes to
+
+-- the five bits at place p of a word, the lowest at place 0
+unfoldable pub symbolAt : ℕ → ℕ → ℕ
+symbolAt w p = w / 2 ^ (5 * p) % 32
+
+-- the nibble at place p of a word, or 255: places 3 to 1 are the value's, place 0 the checksum's
+abbrev pub nibbleAt : ℕ → ℕ → ℕ
+nibbleAt w p = nibbleOf (symbolAt w p)
+
+-- what four nibbles, the highest first, or 255 for a bad symbol, give: a bad symbol outranks a wrong checksum
+unfoldable pub fromNibbles : ℕ → ℕ → ℕ → ℕ → Answer ℕ
+fromNibbles a b c d =
+    pick (eqb a 255) (refused invalidSymbol)
+    (pick (eqb b 255) (refused invalidSymbol)
+    (pick (eqb c 255) (refused invalidSymbol)
+    (pick (eqb d 255) (refused invalidSymbol)
+    (pick (eqb (bitXor (bitXor (bitXor a b) c) d) 15) (given (a * 256 + b * 16 + c)) (refused wrongChecksum)))))
+
+unfoldable pub decodeWord : ℕ → Answer ℕ
+decodeWord w = fromNibbles (nibbleAt w 3) (nibbleAt w 2) (nibbleAt w 1) (nibbleAt w 0)

@@ -1,0 +1,12 @@
+pub mod Answer
+pub mod Gcr
+pub mod Runs
+pub mod Value
+pub mod Reading
+pub mod Render
+pub mod Move
+pub mod Claims
+pub mod Simulate
+pub mod Period
+pub mod Betaflight
+pub mod Edt

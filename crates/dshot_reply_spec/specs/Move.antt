@@ -1,0 +1,48 @@
+-- A word in which one edge has moved by one bit (document 01's term "moved edge"), and the nibbles that it may turn into others.
+-- Assumes nothing.
+use Prim.Native.Nat.{ℕ, _+_, _*_, _/_, _%_, _^_, _<_}
+use mathlib.Core.Path.{_≡_}
+use mathlib.Core.Logic.{_⊎_}
+use Rattle.dshot_reply_spec.specs.Gcr.{replyNibble, replyWord, nibbleAt}
+
+abbrev pub bit : ℕ → ℕ → ℕ
+bit w i = w / 2 ^ i % 2
+
+-- the edge at bit i moves to the free bit j beside it; the start edge is bit 20
+pub record Moved (w w′ i j : ℕ) : Type 0 where
+  pub from : i < 20
+  pub to : j < 20
+  pub beside : (j ≡ i + 1) ⊎ (i ≡ j + 1)
+  pub edge : bit w i ≡ 1
+  pub free : bit w j ≡ 0
+  pub moved : w′ + 2 ^ i ≡ w + 2 ^ j
+
+-- two neighbouring nibbles turn 1,9 to 8,0 or 1,D to 8,4, or back
+pub data Turns : ℕ → ℕ → ℕ → ℕ → Type 0 where
+  19-80 : Turns 1 9 8 0
+  80-19 : Turns 8 0 1 9
+  1D-84 : Turns 1 13 8 4
+  84-1D : Turns 8 4 1 13
+
+-- some two neighbouring nibbles of the word w, the checksum among them, turn so in w′
+pub record Turned (w w′ : ℕ) : Type 0 where
+  pub place : ℕ
+  pub within : place < 3
+  pub turns : Turns (nibbleAt w (place + 1)) (nibbleAt w place) (nibbleAt w′ (place + 1)) (nibbleAt w′ place)
+
+-- the value of a word's nibbles
+abbrev pub wordValue : ℕ → ℕ
+wordValue w = nibbleAt w 3 * 256 + nibbleAt w 2 * 16 + nibbleAt w 1
+
+-- two neighbouring nibbles of the reply of v turn so in that of v′, and the other two stay
+pub record TurnedValue (v v′ : ℕ) : Type 0 where
+  pub place : ℕ
+  pub within : place < 3
+  pub turns : Turns (replyNibble v (place + 1)) (replyNibble v place) (replyNibble v′ (place + 1)) (replyNibble v′ place)
+  pub others : (p : ℕ) → p < 4 → (p ≡ place → ⊥) → (p ≡ place + 1 → ⊥) → replyNibble v′ p ≡ replyNibble v p
+
+-- the changed word is the reply word of the value v′ that the turned nibbles form
+pub record Formed (v v′ w′ : ℕ) : Type 0 where
+  pub small : v′ < 4096
+  pub word : w′ ≡ replyWord v′
+  pub value : TurnedValue v v′

@@ -1,0 +1,64 @@
+-- The samples of a lane as runs of equal levels, and the runs as the transition bits of a reply (document 01; `reply_transitions` of
+-- dshot_reply.rs), at s samples a bit.
+-- Assumes nothing.
+use Prim.Native.Nat.{ℕ, suc, _+_, _-_, _*_, _/_, _^_, max}
+use mathlib.Core.Bool.{Bool, true, false, not}
+use mathlib.Core.List.{List, [], _∷_, _++_, map}
+use lib.Dec.{eqb, leb, ltb}
+use lib.Bits.{bitAnd}
+use lib.ListN.{length, take, drop}
+use Rattle.dshot_reply_spec.specs.Answer.{Answer, given, refused, pick, noReply, overlong}
+
+-- a sample is high if it has a bit in common with the mask
+abbrev pub high : ℕ → ℕ → Bool
+high mask sample = not (eqb (bitAnd sample mask) 0)
+
+abbrev pub levels : ℕ → List ℕ → List Bool
+levels mask samples = map (high mask) samples
+
+-- the place of the first low sample, or the length
+abbrev pub firstLow : List Bool → ℕ
+firstLow [] = 0
+firstLow (true ∷ bs) = suc (firstLow bs)
+firstLow (false ∷ bs) = 0
+
+-- the lengths of the finished runs, where n samples of the present level have gone by
+abbrev pub finished : Bool → ℕ → List Bool → List ℕ
+finished l n [] = []
+finished true n (true ∷ bs) = finished true (suc n) bs
+finished true n (false ∷ bs) = n ∷ finished false 1 bs
+finished false n (false ∷ bs) = finished false (suc n) bs
+finished false n (true ∷ bs) = n ∷ finished true 1 bs
+
+-- the bits that a run of n samples counts for: rounded to the nearest, and never under one
+abbrev pub runBits : ℕ → ℕ → ℕ
+runBits s n = max 1 ((n + (s - 1) / 2) / s)
+
+abbrev pub sum : List ℕ → ℕ
+sum [] = 0
+sum (k ∷ ks) = k + sum ks
+
+-- the bits w, and after them a 1 and k - 1 zeros for each run of k bits
+abbrev pub runsWord : ℕ → List ℕ → ℕ
+runsWord w [] = w
+runsWord w (k ∷ ks) = runsWord (w * 2 ^ k + 2 ^ (k - 1)) ks
+
+-- the runs, with the missing bits as one last run
+abbrev pub complete : List ℕ → List ℕ
+complete ks = pick (ltb (sum ks) 21) (ks ++ ((21 - sum ks) ∷ [])) ks
+
+-- the transition bits of a reply whose finished runs have ks bits
+unfoldable pub assemble : List ℕ → Answer ℕ
+assemble ks = pick (ltb 21 (sum ks)) (refused overlong) (pick (ltb (sum ks) 18) (refused noReply) (given (runsWord 0 (complete ks))))
+
+-- the bits of each finished run of what is read, which starts low
+abbrev pub runsOf : ℕ → List Bool → List ℕ
+runsOf s ls = map (runBits s) (finished false 0 ls)
+
+-- the start is the first low sample, with 19 bits of samples from there on; at most 23 bits of samples are read
+unfoldable pub fromLevels : ℕ → List Bool → Answer ℕ
+fromLevels s ls = pick (leb (19 * s) (length ls - firstLow ls)) (assemble (runsOf s (take (23 * s) (drop (firstLow ls) ls)))) (refused noReply)
+
+-- the transition bits that samples hold at the pins of a mask
+unfoldable pub transitionsOf : ℕ → List ℕ → ℕ → Answer ℕ
+transitionsOf s samples mask = fromLevels s (levels mask samples)

@@ -1,0 +1,43 @@
+-- The simulated ESC, added by document 01: the levels and samples of a capture of a word, s samples a bit.
+-- Assumes nothing.
+use Prim.Native.Nat.{ℕ, zero, suc, _+_, _-_, _*_}
+use mathlib.Core.Bool.{Bool, true, false, not}
+use mathlib.Core.List.{List, [], _∷_, _++_, map}
+use lib.Dec.{eqb, ltb}
+use lib.ListN.{length, replicate}
+use Rattle.dshot_reply_spec.specs.Answer.{Answer, given, refused, pick}
+use Rattle.dshot_reply_spec.specs.Gcr.{replyWord}
+use Rattle.dshot_reply_spec.specs.Move.{bit}
+
+-- the level of a bit, after the level l: a 1 is an edge
+abbrev pub nextLevel : Bool → ℕ → Bool
+nextLevel l b = pick (eqb b 1) (not l) l
+
+-- the levels of the lowest i bits of a word, the highest of them first, after the level l
+abbrev pub bitLevels : ℕ → Bool → ℕ → ℕ → List Bool
+bitLevels s l zero w = []
+bitLevels s l (suc i) w = replicate s (nextLevel l (bit w i)) ++ bitLevels s (nextLevel l (bit w i)) i w
+
+-- a lead of high samples, the word, and high for another m samples
+unfoldable pub wordLevels : ℕ → ℕ → ℕ → ℕ → List Bool
+wordLevels s w lead m = replicate lead true ++ (bitLevels s true 21 w ++ replicate m true)
+
+-- high is the mask, low is 0
+abbrev pub levelSample : ℕ → Bool → ℕ
+levelSample mask l = pick l mask 0
+
+-- the samples of a word in a buffer of n
+unfoldable pub wordSamples : ℕ → ℕ → ℕ → ℕ → ℕ → List ℕ
+wordSamples s w lead mask n = map (levelSample mask) (wordLevels s w lead (n - lead - 21 * s))
+
+-- the whole buffer `out` with the capture of a value in it: 13 where it does not hold the lead and 23 bits of samples, and then 12 for mask 0
+unfoldable pub simulated : ℕ → List ℕ → ℕ → ℕ → ℕ → Answer (List ℕ)
+simulated s out v lead mask =
+    pick (ltb (length out) (lead + 23 * s)) (refused 13)
+    (pick (eqb mask 0) (refused 12)
+    (given (wordSamples s (replyWord v) lead mask (length out))))
+
+-- what a buffer holds after a call that answers so: a refusal leaves every slot as it was
+abbrev pub left : List ℕ → Answer (List ℕ) → List ℕ
+left out (given l) = l
+left out (refused n) = out

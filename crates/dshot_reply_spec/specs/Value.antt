@@ -1,0 +1,41 @@
+-- The meaning of a checked 12-bit value (document 01; `DshotReply::from_value` of dshot_reply.rs): a speed, a reading, or the
+-- acknowledgement of extended telemetry (EDT).
+-- Assumes nothing.
+use Prim.Native.Nat.{ℕ, _+_, _-_, _*_, _/_, _%_, _^_}
+use mathlib.Core.Bool.{Bool, not, _&&_, _||_}
+use lib.Dec.{eqb}
+use Rattle.dshot_reply_spec.specs.Answer.{Answer, given, refused, pick, zeroPeriod}
+
+-- the kinds of reading, by the words that the bench's line has for them, each with its number
+pub data Reading : Type 0 where
+  erpm : ℕ → Reading
+  temp : ℕ → Reading
+  volt : ℕ → Reading
+  amp : ℕ → Reading
+  debug : ℕ → ℕ → Reading
+  state : ℕ → Reading
+  edt : Reading
+
+-- eRPM / 100 of a period in microseconds, halves up
+unfoldable pub speedOf : ℕ → Answer Reading
+speedOf period = pick (eqb period 0) (refused zeroPeriod) (given (erpm ((600000 + period / 2) / period)))
+
+-- a period is nine bits, shifted by three: 0xFFF is a motor that stands still
+unfoldable pub speedValue : ℕ → Answer Reading
+speedValue v = pick (eqb v 0xfff) (given (erpm 0)) (speedOf (v % 512 * 2 ^ (v / 512)))
+
+-- a typed reading, by half its type nibble
+unfoldable pub readingOf : ℕ → ℕ → Reading
+readingOf kind d =
+    pick (eqb kind 1) (temp d)
+    (pick (eqb kind 2) (volt d)
+    (pick (eqb kind 3) (amp d)
+    (pick (eqb kind 7) (state d)
+    (debug (kind - 3) d))))
+
+-- 0xE00 with EDT off is the acknowledgement; with EDT off, or a type nibble that is odd or 0, a value is a speed
+unfoldable pub replyOf : ℕ → Bool → Answer Reading
+replyOf value extended =
+    let v = value % 4096 in
+    pick (not extended && eqb v 0xe00) (given edt)
+    (pick (not extended || (eqb (v / 256 % 2) 1 || eqb (v / 256) 0)) (speedValue v) (given (readingOf (v / 512) (v % 256))))
