@@ -7,6 +7,11 @@ pub mod Damage
 pub mod Shift
 pub mod Cross
 pub mod Moves
-pub mod SimulatedRenders
-pub mod PeriodLaws
 pub mod Theorems
+pub mod Passed
+pub mod Words
+pub mod SimulatedRenders
+pub mod Simulated
+pub mod PeriodLaws
+pub mod Period
+pub mod Documents

@@ -83,7 +83,7 @@ runs-got s p (closed-low k n m h) =
 
 -- ---- what those bits are assembled to
 
-sum-snoc : (ks : List ℕ) (k : ℕ) → sum (ks ++ (k ∷ [])) ≡ sum ks + k
+pub sum-snoc : (ks : List ℕ) (k : ℕ) → sum (ks ++ (k ∷ [])) ≡ sum ks + k
 sum-snoc [] k = omega arith
 sum-snoc (x ∷ ks) k = omega (arith, sum-snoc ks k)
 

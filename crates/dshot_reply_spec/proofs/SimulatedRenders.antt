@@ -40,7 +40,7 @@ record Rest (s : ℕ) (l : Bool) (c i w : ℕ) : Type 0 where
   word : (acc : ℕ) → runsWord acc ks ≡ wordFrom acc c i w
   runs : Runs s l ks (replicate (s * c) l ++ (bitLevels s l i w ++ replicate (2 * s) true))
 
-low-bits : (w i : ℕ) → w % 2 ^ suc i ≡ bit w i * 2 ^ i + w % 2 ^ i
+pub low-bits : (w i : ℕ) → w % 2 ^ suc i ≡ bit w i * 2 ^ i + w % 2 ^ i
 low-bits w i =
     let e : suc i ≡ 1 + i = omega arith in
     ap (λ (n : ℕ). w % 2 ^ n) e ∙ mod-pow-add w 1 i
@@ -132,9 +132,9 @@ read-part s w m h =
     ∙ ap (λ (ls : List Bool). bitLevels s true 21 w ++ ls) (some-high (2 * s) m h)
 
 -- the simulated capture of a word that has its start edge renders the word
-pub simulated : (s : ℕ) → 0 < s → (w lead m : ℕ) → w / 2 ^ 20 ≡ 1 → 2 * s ≤ m → Renders s (wordLevels s w lead m) w
+pub word-renders : (s : ℕ) → 0 < s → (w lead m : ℕ) → w / 2 ^ 20 ≡ 1 → 2 * s ≤ m → Renders s (wordLevels s w lead m) w
 unfolding wordLevels
-simulated s p w lead m b h =
+word-renders s p w lead m b h =
     let r = rest s p false 1 20 w (omega arith) in
     let f : bit w 20 ≡ 1 = ap (λ (n : ℕ). n % 2) b in
     let first : bitLevels s true 21 w ≡ replicate s false ++ bitLevels s false 20 w = step s true false 20 w (ap (λ (n : ℕ). pick (eqb n 1) false true) f) in

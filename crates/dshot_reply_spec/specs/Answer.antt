@@ -18,6 +18,11 @@ abbrev pub pick : {A : Type 0} → Bool → A → A → A
 pick true a b = a
 pick false a b = b
 
+-- the number of a refusal, and 0 for what was given
+abbrev pub refusalNumber : {A : Type 0} → Answer A → ℕ
+refusalNumber (given a) = 0
+refusalNumber (refused n) = n
+
 -- ---- document 01's numbers of the refusals of a reply
 
 abbrev pub noReply : ℕ

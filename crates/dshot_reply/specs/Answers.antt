@@ -1,0 +1,59 @@
+-- The answers of the source's enums, and of those added, in document 01's numbers and values.
+-- Assumes nothing.
+use Prim.Native.Nat.{ℕ}
+use Rattle.dshot_reply_spec.specs.Answer.{Answer, given, refused, noReply, overlong, invalidSymbol, wrongChecksum, zeroPeriod}
+use Rattle.dshot_reply_spec.specs.Value.{Reading, erpm, temp, volt, amp, debug, state, edt}
+use Rattle.dshot_reply.specs.declared.DshotReplyError.{DshotReplyError}
+use Rattle.dshot_reply.specs.declared.DshotReplyError.the-variants.{NoReply, Overlong, InvalidSymbol, Checksum, ZeroPeriod}
+use Rattle.dshot_reply.specs.declared.Transitions.{Transitions}
+use Rattle.dshot_reply.specs.declared.Transitions.the-variants as Bits
+use Rattle.dshot_reply.specs.declared.Decoded.{Decoded}
+use Rattle.dshot_reply.specs.declared.Decoded.the-variants as Code
+use Rattle.dshot_reply.specs.declared.DshotReply.{DshotReply}
+use Rattle.dshot_reply.specs.declared.DshotReply.the-variants.{Erpm, Temperature, Voltage, Current, Debug, StateEvent, ExtendedTelemetryEnabled}
+use Rattle.dshot_reply.specs.declared.ReplyRead.{ReplyRead}
+use Rattle.dshot_reply.specs.declared.ReplyRead.the-variants as Read
+use Rattle.dshot_reply.specs.declared.simulate.PeriodValue.{PeriodValue}
+use Rattle.dshot_reply.specs.declared.simulate.PeriodValue.the-variants as Period
+use Rattle.dshot_reply.specs.declared.simulate.Simulated.{Simulated}
+use Rattle.dshot_reply.specs.declared.simulate.Simulated.the-variants.{Written, NoMask, WrongLength}
+
+-- the number of each refusal
+abbrev pub errorNumber : DshotReplyError → ℕ
+errorNumber NoReply = noReply
+errorNumber Overlong = overlong
+errorNumber InvalidSymbol = invalidSymbol
+errorNumber Checksum = wrongChecksum
+errorNumber ZeroPeriod = zeroPeriod
+
+abbrev pub transitionsAnswer : Transitions → Answer ℕ
+transitionsAnswer (Bits.Word w) = given w
+transitionsAnswer (Bits.Refused e) = refused (errorNumber e)
+
+abbrev pub decodedAnswer : Decoded → Answer ℕ
+decodedAnswer (Code.Value v) = given v
+decodedAnswer (Code.Refused e) = refused (errorNumber e)
+
+-- the kind and the number of each reply
+abbrev pub reading : DshotReply → Reading
+reading (Erpm n) = erpm n
+reading (Temperature n) = temp n
+reading (Voltage n) = volt n
+reading (Current n) = amp n
+reading (Debug channel n) = debug channel n
+reading (StateEvent n) = state n
+reading ExtendedTelemetryEnabled = edt
+
+abbrev pub replyAnswer : ReplyRead → Answer Reading
+replyAnswer (Read.Reply r) = given (reading r)
+replyAnswer (Read.Refused e) = refused (errorNumber e)
+
+abbrev pub periodAnswer : PeriodValue → Answer ℕ
+periodAnswer (Period.Value v) = given v
+periodAnswer Period.OutOfRange = refused 16
+
+-- the number of a refused capture, and 0 for a written one
+abbrev pub simulatedNumber : Simulated → ℕ
+simulatedNumber Written = 0
+simulatedNumber NoMask = 12
+simulatedNumber WrongLength = 13

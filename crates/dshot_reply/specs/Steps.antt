@@ -1,0 +1,27 @@
+-- What the steps of the reader do, for the contracts of its private functions. No public promise cites these.
+-- Assumes nothing.
+use Prim.Native.Nat.{ℕ, suc, _+_, _-_, _*_, _^_, _<_}
+use mathlib.Core.Path.{_≡_}
+use mathlib.Core.Bool.{Bool, Bool·beq}
+use mathlib.Core.List.{List, [], _∷_}
+use lib.Dec.{ltb}
+use lib.ListN.{getD}
+use Rattle.dshot_reply_spec.specs.Answer.{Answer, given, refused, pick, noReply}
+use Rattle.dshot_reply_spec.specs.Gcr.{symbolOf, nibbleOf}
+
+-- a table has the symbol of each nibble
+abbrev pub Encodes : List ℕ → Type 0
+Encodes table = (n : ℕ) → n < 16 → (getD table n 0 ≡ symbolOf n) × (getD table n 0 < 32)
+
+-- a table has the nibble of each symbol, and 255 for each of the other five bits
+abbrev pub Decodes : List ℕ → Type 0
+Decodes table = (s : ℕ) → s < 32 → getD table s 0 ≡ nibbleOf s
+
+-- how many levels are l before one is not
+abbrev pub sameFor : Bool → List Bool → ℕ
+sameFor l [] = 0
+sameFor l (b ∷ bs) = pick (Bool·beq b l) (suc (sameFor l bs)) 0
+
+-- the answer at the end of reading, where the finished runs have come to the bits of w
+unfoldable pub closed : ℕ → ℕ → Answer ℕ
+closed bits w = pick (ltb bits 18) (refused noReply) (pick (ltb bits 21) (given (w * 2 ^ (21 - bits) + 2 ^ (21 - bits - 1))) (given w))

@@ -1,0 +1,107 @@
+// Added: a simulated ESC, which turns a period into a value and writes the capture that a reply of a value leaves in a buffer.
+
+use crate::reply_transitions_for;
+ghost use mathlib.Core.Path.{_≡_};
+ghost use Prim.Native.Nat.{_+_, _≤_};
+ghost use lib.ListN.{length, replicate, set};
+ghost use Rattle.dshot_reply_spec.specs.Answer.{refusalNumber};
+ghost use Rattle.dshot_reply_spec.specs.Simulate.{nextLevel, levelSample, wordSamples, simulated, left};
+ghost use Rattle.dshot_reply_spec.specs.Period.{periodValue};
+ghost use Rattle.dshot_reply.specs.Answers.{simulatedNumber, periodAnswer};
+
+// The value of a period, or that it has none.
+pub enum PeriodValue {
+    Value(u16),
+    OutOfRange,
+}
+
+// The value of a period of 1 to 65535 us: the smallest exponent that leaves at most 511, shifted-out bits dropped.
+pub fn period_value(period_us: u32) -> PeriodValue
+    ensures { λ r. ⌜ periodAnswer r ≡ periodValue «period_us» ⌝ }
+{
+    if period_us == 0 {
+        return PeriodValue::OutOfRange;
+    }
+    if 65535 < period_us {
+        return PeriodValue::OutOfRange;
+    }
+    let mut left = period_us;
+    let mut exponent: u32 = 0;
+    while 511 < left {
+        left /= 2;
+        exponent += 1;
+    }
+    PeriodValue::Value((exponent * 512 + left) as u16)
+}
+
+fn next_level(level: bool, bit: u32) -> bool
+    ensures { λ r. ⌜ r ≡ nextLevel level bit ⌝ }
+{
+    if bit == 1 { !level } else { level }
+}
+
+fn level_sample(level: bool, pin_mask: u16) -> u16
+    ensures { λ r. ⌜ r ≡ levelSample «pin_mask» level ⌝ }
+{
+    if level { pin_mask } else { 0 }
+}
+
+fn fill(out: &mut [u16], value: u16)
+    ensures { λ r. ⌜ now (out .exit) ≡ replicate (length (now (out .entry))) value ⌝ }
+{
+    let mut i = 0;
+    while i < out.len() {
+        out[i] = value;
+        i += 1;
+    }
+}
+
+fn put_three(out: &mut [u16], at: usize, value: u16)
+    requires { ⌜ at + 3 ≤ length (now out) ⌝ }
+    ensures { λ r. ⌜ now (out .exit) ≡ set (set (set (now (out .entry)) at value) (at + 1) value) (at + 2) value ⌝ }
+{
+    out[at] = value;
+    out[at + 1] = value;
+    out[at + 2] = value;
+}
+
+// Writes the bits of a word into a buffer of high samples, three samples a bit.
+fn write_bits(out: &mut [u16], lead: usize, pin_mask: u16, word: u32)
+    requires { ⌜ (lead + 63 ≤ length (now out)) × (now out ≡ replicate (length (now out)) «pin_mask») ⌝ }
+    ensures { λ r. ⌜ now (out .exit) ≡ wordSamples 3 word lead «pin_mask» (length (now (out .entry))) ⌝ }
+{
+    let mut level = true;
+    let mut left: u32 = 21;
+    let mut at = lead;
+    while 0 < left {
+        left -= 1;
+        level = next_level(level, (word >> left) % 2);
+        put_three(out, at, level_sample(level, pin_mask));
+        at += 3;
+    }
+}
+
+// Whether a capture was written.
+pub enum Simulated {
+    Written,
+    NoMask,
+    WrongLength,
+}
+
+// Writes the capture of an ESC's reply of `value`: `lead` high samples, the reply, and high to the end of the buffer.
+pub fn simulate_reply(out: &mut [u16], value: u16, lead: usize, pin_mask: u16) -> Simulated
+    ensures { λ r. ⌜ (simulatedNumber r ≡ refusalNumber (simulated 3 (now (out .entry)) value lead «pin_mask»)) × (now (out .exit) ≡ left (now (out .entry)) (simulated 3 (now (out .entry)) value lead «pin_mask»)) ⌝ }
+{
+    if out.len() < 69 {
+        return Simulated::WrongLength;
+    }
+    if out.len() - 69 < lead {
+        return Simulated::WrongLength;
+    }
+    if pin_mask == 0 {
+        return Simulated::NoMask;
+    }
+    fill(out, pin_mask);
+    write_bits(out, lead, pin_mask, reply_transitions_for(value));
+    Simulated::Written
+}
