@@ -1,0 +1,6 @@
+pub mod Tables
+pub mod Levels
+pub mod RunLaws
+pub mod WordLaws
+pub mod DecodeLaws
+pub mod SimLaws

@@ -1,0 +1,70 @@
+-- `dshot_reply::reply_transitions_for` meets its contract.
+-- Assumes nothing.
+use borrow.Author.Needs.{needs}
+use Rattle.dshot_reply.proofs.reply_transitions_for.Statement.{statement}
+use Rattle.dshot_reply.proofs.reply_transitions_for.Tie as tie
+use Rattle.dshot_reply_spec.proofs.Decode.{nibble-lt}
+use Rattle.dshot_reply_spec.specs.Gcr.{replyWord, wordOf}
+use Rattle.dshot_reply.proofs.Tables.{encodes}
+
+nibble-symbol-requires : tie.Need-nibble-symbol-requires
+nibble-symbol-requires c κs = (encodes, search needs)
+
+nibble-symbol-requires-2 : tie.Need-nibble-symbol-requires-2
+nibble-symbol-requires-2 c κs = (encodes, search needs)
+
+nibble-symbol-requires-3 : tie.Need-nibble-symbol-requires-3
+nibble-symbol-requires-3 c κs = (encodes, search needs)
+
+nibble-symbol-requires-4 : tie.Need-nibble-symbol-requires-4
+nibble-symbol-requires-4 c κs =
+    let v = c .before .before .before .before .before .before .before .args .value in
+    (encodes, nibble-lt v 0)
+
+add-result : tie.Need-add-result
+add-result c = search needs
+
+mul-result : tie.Need-mul-result
+mul-result c = search needs
+
+add-result-2 : tie.Need-add-result-2
+add-result-2 c = search needs
+
+mul-result-2 : tie.Need-mul-result-2
+mul-result-2 c = search needs
+
+add-result-3 : tie.Need-add-result-3
+add-result-3 c = search needs
+
+mul-result-3 : tie.Need-mul-result-3
+mul-result-3 c = search needs
+
+add-result-4 : tie.Need-add-result-4
+add-result-4 c = search needs
+
+returns : tie.Need-returns
+unfolding replyWord wordOf
+returns c =
+    rw (
+      c .before .before .before .before .before .before .nibble-symbol .ensures .0,
+      c .before .before .before .before .nibble-symbol2 .ensures .0,
+      c .before .before .nibble-symbol3 .ensures .0,
+      c .nibble-symbol4 .ensures .0,
+    )
+
+pub reply-transitions-for-spec : {M : Type 1} → statement M
+reply-transitions-for-spec =
+    tie.close
+    (tie.spec
+    nibble-symbol-requires
+    nibble-symbol-requires-2
+    nibble-symbol-requires-3
+    nibble-symbol-requires-4
+    add-result
+    mul-result
+    add-result-2
+    mul-result-2
+    add-result-3
+    mul-result-3
+    add-result-4
+    returns)
