@@ -1,23 +1,25 @@
 -- Laws of the buffer into which the simulated ESC writes a word, three samples at a time, and of its three answers.
 -- Assumes nothing.
 use mathlib.Core.Path.{_≡_, sym, refl, ap, _∙_}
-use mathlib.Core.Bool.{Bool, true}
+use mathlib.Core.Bool.{Bool, true, false}
 use mathlib.Core.List.{List, [], _∷_, _++_, map, append-assoc, append-nil}
 use Prim.Native.Nat.{ℕ, zero, suc, _+_, _-_, _<_, _≤_}
 use native.Mathlib.Nat.{suc-add}
 use native.Mathlib.Omega.{arith}
 use lib.ListN.{length, take, drop, set, replicate, length-append, length-replicate, length-map, replicate-append-replicate}
 use lib.Seq.{take-add, drop-drop, length-take-le, take-all}
-use borrow.Author.Tests.{lt-ltb, le-ltb, eq-eqb}
-use Rattle.dshot_reply_spec.specs.Answer.{refusalNumber}
-use Rattle.dshot_reply_spec.specs.Gcr.{replyWord}
-use Rattle.dshot_reply_spec.specs.Move.{bit}
-use Rattle.dshot_reply_spec.specs.Simulate.{nextLevel, bitLevels, wordLevels, levelSample, wordSamples, simulated, left}
+use borrow.Author.Tests.{ltb-false, eqb-false}
+use lib.Dec.{eqb, ltb}
+use Rattle.dshot_reply.specs.declared.simulate.Simulated.{Simulated}
+use Rattle.dshot_reply.specs.declared.simulate.Simulated.the-variants.{Written}
 use Rattle.dshot_reply_spec.proofs.Simulated.{simulated-written}
 use Rattle.dshot_reply_spec.proofs.SimulatedRenders.{length-bits}
+use Rattle.dshot_reply_spec.specs.Answer.{given, pick, refusalNumber, refused}
+use Rattle.dshot_reply_spec.specs.Gcr.{replyWord}
+use Rattle.dshot_reply_spec.specs.Move.{bit}
+use Rattle.dshot_reply_spec.specs.Simulate.{bitLevels, left, levelSample, nextLevel, simulated, wordLevels, wordSamples}
 use Rattle.dshot_reply.specs.Answers.{simulatedNumber}
-use Rattle.dshot_reply.specs.declared.simulate.Simulated.{Simulated}
-use Rattle.dshot_reply.specs.declared.simulate.Simulated.the-variants.{Written, NoMask, WrongLength}
+use Rattle.dshot_reply.specs.Steps.{simulatedRefusal}
 
 -- three stores next to each other
 put3 : (xs ys : List ℕ) (a b c x : ℕ)
@@ -97,13 +99,27 @@ module _ (out : List ℕ) (v lead m : ℕ) where
   abbrev pub Answers : Simulated → List ℕ → Type 0
   Answers r o = (simulatedNumber r ≡ refusalNumber (simulated 3 out v lead m)) × (o ≡ left out (simulated 3 out v lead m))
 
-  pub too-short : length out < lead + 69 → Answers WrongLength out
-  unfolding simulated
-  too-short h = (rw (lt-ltb (length out) (lead + 69) h), rw (lt-ltb (length out) (lead + 69) h))
+  -- a refusal has the number of the simulated ESC's, and leaves the buffer
+  pub kept : (r : Simulated) → simulatedNumber r ≡ simulatedRefusal (length out) lead m → (simulatedNumber r ≡ 0 → ⊥) → Answers r out
+  unfolding simulatedRefusal simulated
+  kept r e n = go (ltb (length out) (lead + 69)) (eqb m 0) e
+    where
+      go : (b c : Bool) → simulatedNumber r ≡ pick b 13 (pick c 12 0)
+          → (simulatedNumber r ≡ refusalNumber (pick b (refused 13) (pick c (refused 12) (given (wordSamples 3 (replyWord v) lead m (length out))))))
+          × (out ≡ left out (pick b (refused 13) (pick c (refused 12) (given (wordSamples 3 (replyWord v) lead m (length out))))))
+      go true c q = (q, refl)
+      go false true q = (q, refl)
+      go false false q = absurd (n q)
 
-  pub no-mask : lead + 69 ≤ length out → m ≡ 0 → Answers NoMask out
-  unfolding simulated
-  no-mask h e = (rw (le-ltb (length out) (lead + 69) h, eq-eqb m 0 e), rw (le-ltb (length out) (lead + 69) h, eq-eqb m 0 e))
+  -- an answer of 0 has room and a mask
+  pub accepted : (k : ℕ) → k ≡ simulatedRefusal (length out) lead m → k ≡ 0 → (lead + 69 ≤ length out) × (m ≡ 0 → ⊥)
+  unfolding simulatedRefusal
+  accepted k e z = go (ltb (length out) (lead + 69)) refl (eqb m 0) refl (sym z ∙ e)
+    where
+      go : (b : Bool) → ltb (length out) (lead + 69) ≡ b → (c : Bool) → eqb m 0 ≡ c → _≡_ {A = ℕ} 0 (pick b 13 (pick c 12 0)) → (lead + 69 ≤ length out) × (m ≡ 0 → ⊥)
+      go true p c q z = absurd (omega arith)
+      go false p true q z = absurd (omega arith)
+      go false p false q z = (ltb-false (length out) (lead + 69) p, eqb-false m 0 q)
 
   pub all-written : lead + 69 ≤ length out → (m ≡ 0 → ⊥) → Answers Written (wordSamples 3 (replyWord v) lead m (length out))
   all-written h n = (rw (simulated-written 3 (omega arith) out v lead m h n), rw (simulated-written 3 (omega arith) out v lead m h n))

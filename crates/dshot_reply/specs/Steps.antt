@@ -1,10 +1,10 @@
--- What the steps of the reader do, for the contracts of its private functions. No public promise cites these.
+-- What the steps of the reader and of the simulated ESC do, for the contracts of private functions. No public promise cites these.
 -- Assumes nothing.
 use Prim.Native.Nat.{ℕ, suc, _+_, _-_, _*_, _^_, _<_}
 use mathlib.Core.Path.{_≡_}
 use mathlib.Core.Bool.{Bool, Bool·beq}
 use mathlib.Core.List.{List, [], _∷_}
-use lib.Dec.{ltb}
+use lib.Dec.{eqb, ltb}
 use lib.ListN.{getD}
 use Rattle.dshot_reply_spec.specs.Answer.{Answer, given, refused, pick, noReply}
 use Rattle.dshot_reply_spec.specs.Gcr.{symbolOf, nibbleOf}
@@ -25,3 +25,7 @@ sameFor l (b ∷ bs) = pick (Bool·beq b l) (suc (sameFor l bs)) 0
 -- the answer at the end of reading, where the finished runs have come to the bits of w
 unfoldable pub closed : ℕ → ℕ → Answer ℕ
 closed bits w = pick (ltb bits 18) (refused noReply) (pick (ltb bits 21) (given (w * 2 ^ (21 - bits) + 2 ^ (21 - bits - 1))) (given w))
+
+-- the number with which the simulated ESC refuses a buffer of n samples, a lead and a mask, or 0
+unfoldable pub simulatedRefusal : ℕ → ℕ → ℕ → ℕ
+simulatedRefusal n lead mask = pick (ltb n (lead + 69)) 13 (pick (eqb mask 0) 12 0)

@@ -8,6 +8,7 @@ ghost use Rattle.dshot_reply_spec.specs.Answer.{refusalNumber};
 ghost use Rattle.dshot_reply_spec.specs.Simulate.{nextLevel, levelSample, wordSamples, simulated, left};
 ghost use Rattle.dshot_reply_spec.specs.Period.{periodValue};
 ghost use Rattle.dshot_reply.specs.Answers.{simulatedNumber, periodAnswer};
+ghost use Rattle.dshot_reply.specs.Steps.{simulatedRefusal};
 
 // The value of a period, or that it has none.
 pub enum PeriodValue {
@@ -88,20 +89,33 @@ pub enum Simulated {
     WrongLength,
 }
 
-// Writes the capture of an ESC's reply of `value`: `lead` high samples, the reply, and high to the end of the buffer.
-pub fn simulate_reply(out: &mut [u16], value: u16, lead: usize, pin_mask: u16) -> Simulated
-    ensures { λ r. ⌜ (simulatedNumber r ≡ refusalNumber (simulated 3 (now (out .entry)) value lead «pin_mask»)) × (now (out .exit) ≡ left (now (out .entry)) (simulated 3 (now (out .entry)) value lead «pin_mask»)) ⌝ }
+// What a call with such a buffer, lead and mask answers: it needs room for the lead and two bits more than a reply, and a pin.
+fn answer_for(length: usize, lead: usize, pin_mask: u16) -> Simulated
+    ensures { λ r. ⌜ simulatedNumber r ≡ simulatedRefusal length lead «pin_mask» ⌝ }
 {
-    if out.len() < 69 {
+    if length < 69 {
         return Simulated::WrongLength;
     }
-    if out.len() - 69 < lead {
+    if length - 69 < lead {
         return Simulated::WrongLength;
     }
     if pin_mask == 0 {
         return Simulated::NoMask;
     }
-    fill(out, pin_mask);
-    write_bits(out, lead, pin_mask, reply_transitions_for(value));
     Simulated::Written
+}
+
+// Writes the capture of an ESC's reply of `value`: `lead` high samples, the reply, and high to the end of the buffer.
+pub fn simulate_reply(out: &mut [u16], value: u16, lead: usize, pin_mask: u16) -> Simulated
+    ensures { λ r. ⌜ (simulatedNumber r ≡ refusalNumber (simulated 3 (now (out .entry)) value lead «pin_mask»)) × (now (out .exit) ≡ left (now (out .entry)) (simulated 3 (now (out .entry)) value lead «pin_mask»)) ⌝ }
+{
+    match answer_for(out.len(), lead, pin_mask) {
+        Simulated::Written => {
+            fill(out, pin_mask);
+            write_bits(out, lead, pin_mask, reply_transitions_for(value));
+            Simulated::Written
+        }
+        Simulated::NoMask => Simulated::NoMask,
+        Simulated::WrongLength => Simulated::WrongLength,
+    }
 }

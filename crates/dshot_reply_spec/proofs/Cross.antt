@@ -2,18 +2,21 @@
 -- Assumes nothing.
 use mathlib.Core.Path.{_≡_, sym, subst, refl, ap, _∙_}
 use mathlib.Core.Logic.{_⊎_, inl, inr, ⊎-elim}
-use mathlib.Core.Bool.{Bool, true, false, Bool·beq}
+use mathlib.Core.Bool.{Bool, true, false, not, Bool·beq}
+use mathlib.Core.List.{List, [], _∷_}
+use lib.ListN.{getD}
 use Prim.Native.Nat.{ℕ, zero, suc, _+_, _*_, _-_, _/_, _%_, _^_, _<_, _≤_}
 use native.Mathlib.Omega.{arith}
 use lib.Dec.{T, eqb, leb, ltb, eqb→eq, eqb-refl, leb→le, ltb→lt}
 use lib.Bits.{bitXor}
 use lib.Pow.{field, mod-mod-pow}
 use borrow.Author.Tests.{eq-eqb}
+use Rattle.dshot_reply_spec.proofs.Rows.{in-listed, listed, listed-in, passes, same-row}
 use Rattle.dshot_reply_spec.proofs.Table.{at, below, both, both-left, both-right}
 use Rattle.dshot_reply_spec.proofs.XorLaws.{at2}
 use Rattle.dshot_reply_spec.specs.Answer.{pick}
 use Rattle.dshot_reply_spec.specs.Gcr.{nibbleOf, symbolOf}
-use Rattle.dshot_reply_spec.specs.Move.{19-80, 1D-84, 80-19, 84-1D, Turns, bit}
+use Rattle.dshot_reply_spec.specs.Move.{Turns, bit, turns}
 
 -- the bits below m are those of the number modulo 2 ^ m
 pub bit-low : (u m i : ℕ) → i < m → bit (u % 2 ^ m) i ≡ bit u i
@@ -58,48 +61,32 @@ across-down = tested 10 5 4 tt
 
 -- ---- the nibbles that turn
 
-either : Bool → Bool → Bool
-either true b = true
-either false b = b
-
-either-of : (x y : Bool) → T (either x y) → T x ⊎ T y
-unfolding either
-either-of true y t = inl tt
-either-of false y t = inr t
-
-four : ℕ → ℕ → ℕ → ℕ → ℕ → ℕ → ℕ → ℕ → Bool
-four a b c d p q r s = both (eqb a p) (both (eqb b q) (both (eqb c r) (eqb d s)))
-
-turns-by : (a b c d p q r s : ℕ) → Turns p q r s → T (four a b c d p q r s) → Turns a b c d
-unfolding four
-turns-by a b c d p q r s u t =
-    let t2 = both-right (eqb a p) (both (eqb b q) (both (eqb c r) (eqb d s))) t in
-    let t3 = both-right (eqb b q) (both (eqb c r) (eqb d s)) t2 in
-    let ea = eqb→eq a p (both-left (eqb a p) (both (eqb b q) (both (eqb c r) (eqb d s))) t) in
-    let eb = eqb→eq b q (both-left (eqb b q) (both (eqb c r) (eqb d s)) t2) in
-    let ec = eqb→eq c r (both-left (eqb c r) (eqb d s) t3) in
-    let ed = eqb→eq d s (both-right (eqb c r) (eqb d s) t3) in
-    rw (ea, eb, ec, ed) u
-
+-- whether the nibbles a, b turn into c, d
 pub turning : ℕ → ℕ → ℕ → ℕ → Bool
-turning a b c d = either (four a b c d 1 9 8 0) (either (four a b c d 8 0 1 9) (either (four a b c d 1 13 8 4) (four a b c d 8 4 1 13)))
+turning a b c d = listed (a ∷ b ∷ c ∷ d ∷ []) turns
 
 pub turns-of : (a b c d : ℕ) → T (turning a b c d) → Turns a b c d
 unfolding turning
-turns-of a b c d t =
-    ⊎-elim (turns-by a b c d 1 9 8 0 19-80)
-    (λ t2. ⊎-elim (turns-by a b c d 8 0 1 9 80-19)
-    (λ t3. ⊎-elim (turns-by a b c d 1 13 8 4 1D-84) (turns-by a b c d 8 4 1 13 84-1D)
-    (either-of (four a b c d 1 13 8 4) (four a b c d 8 4 1 13) t3))
-    (either-of (four a b c d 8 0 1 9) (either (four a b c d 1 13 8 4) (four a b c d 8 4 1 13)) t2))
-    (either-of (four a b c d 1 9 8 0) (either (four a b c d 8 0 1 9) (either (four a b c d 1 13 8 4) (four a b c d 8 4 1 13))) t)
+turns-of a b c d t = listed-in (a ∷ b ∷ c ∷ d ∷ []) turns t
 
 pub turning-of : {a b c d : ℕ} → Turns a b c d → T (turning a b c d)
-unfolding turning four either
-turning-of 19-80 = tt
-turning-of 80-19 = tt
-turning-of 1D-84 = tt
-turning-of 84-1D = tt
+unfolding turning
+turning-of m = in-listed m
+
+-- neither nibble stays
+changes : List ℕ → Bool
+changes r = both (not (eqb (getD r 2 0) (getD r 0 0))) (not (eqb (getD r 3 0) (getD r 1 0)))
+
+differ : (x y : ℕ) → T (not (eqb x y)) → x ≡ y → ⊥
+differ x y t e = rw (eq-eqb x y e) at t
+
+pub turn-high : {a b c d : ℕ} → Turns a b c d → c ≡ a → ⊥
+unfolding changes
+turn-high {a} {b} {c} {d} m = differ c a (both-left (not (eqb c a)) (not (eqb d b)) (passes changes tt m))
+
+pub turn-low : {a b c d : ℕ} → Turns a b c d → d ≡ b → ⊥
+unfolding changes
+turn-low {a} {b} {c} {d} m = differ d b (both-right (not (eqb c a)) (not (eqb d b)) (passes changes tt m))
 
 -- two nibbles, neither of which marks a bad symbol, with the exclusive or s
 unfoldable pub good : ℕ → ℕ → ℕ → Bool
@@ -133,9 +120,9 @@ crossing i j t a b x ha hb q e f =
     (rw (← q, eq-eqb (bit x i) 1 e, eq-eqb (bit x j) 0 f) at (at2 (cross-test i j) 16 16 t a b ha hb))
 
 pub crossed-up : Crossed 4 5
-unfolding cross-test good turning four either nibbleOf
+unfolding cross-test good turning listed same-row nibbleOf
 crossed-up = crossing 4 5 tt
 
 pub crossed-down : Crossed 5 4
-unfolding cross-test good turning four either nibbleOf
+unfolding cross-test good turning listed same-row nibbleOf
 crossed-down = crossing 5 4 tt

@@ -5,6 +5,7 @@ pub mod Decode
 pub mod Rendered
 pub mod Damage
 pub mod Shift
+pub mod Rows
 pub mod Cross
 pub mod Moves
 pub mod Theorems

@@ -12,7 +12,7 @@ use lib.Dec.{T, eqb, eqb→eq}
 use borrow.Author.Tests.{eq-eqb, ne-eqb}
 use lib.Bits.{bitXor}
 use lib.Pow.{pow-pos, pow-add, shr-shr, field, mod-mod-pow, split}
-use Rattle.dshot_reply_spec.proofs.Cross.{Crossed, Room, across-down, across-up, bit-low, crossed-down, crossed-up, good, inside, turning, turning-of, turns-of}
+use Rattle.dshot_reply_spec.proofs.Cross.{Crossed, Room, across-down, across-up, bit-low, crossed-down, crossed-up, good, inside, turn-high, turn-low, turning, turning-of, turns-of}
 use Rattle.dshot_reply_spec.proofs.Damage.{Undecoded, damaged, equal-or-not, kept, nibblesOf, not-taken, pair-keeps, pair-settled, small-nibbles}
 use Rattle.dshot_reply_spec.proofs.Decode.{nibble-lt, nibbles-xor, reply-nibble, reply-symbol, start-edge, value-lt, value-nibble, word-again, xorOf}
 use Rattle.dshot_reply_spec.proofs.Rendered.{lt-or-ge}
@@ -20,7 +20,7 @@ use Rattle.dshot_reply_spec.proofs.Shift.{above, bit-above, symbol-abov
 use Rattle.dshot_reply_spec.proofs.Table.{at, both, both-right}
 use Rattle.dshot_reply_spec.specs.Answer.{pick}
 use Rattle.dshot_reply_spec.specs.Gcr.{decodeWord, nibbleOf, replyNibble, replyWord, symbolAt, symbolOf}
-use Rattle.dshot_reply_spec.specs.Move.{19-80, 1D-84, 80-19, 84-1D, Formed, Moved, Turned, Turns, bit, wordValue}
+use Rattle.dshot_reply_spec.specs.Move.{Formed, Moved, Turned, Turns, bit, turns, wordValue}
 use Rattle.dshot_reply_spec.specs.Render.{Damaged}
 
 -- what the word has above its lowest 5q bits, where a bit i and a bit j of that change places below m
@@ -97,18 +97,6 @@ ten-bits : (w q : ℕ) → w / 2 ^ (5 * q) % 2 ^ 10 ≡ symbolAt w (q + 1) * 32 
 ten-bits w q = sym (split (w / 2 ^ (5 * q) % 2 ^ 10) 5) ∙ rw (high-of w q, low-of w q)
 
 -- ---- nibbles that turn
-
-turn-high : {a b c d : ℕ} → Turns a b c d → c ≡ a → ⊥
-turn-high 19-80 e = omega arith
-turn-high 80-19 e = omega arith
-turn-high 1D-84 e = omega arith
-turn-high 84-1D e = omega arith
-
-turn-low : {a b c d : ℕ} → Turns a b c d → d ≡ b → ⊥
-turn-low 19-80 e = omega arith
-turn-low 80-19 e = omega arith
-turn-low 1D-84 e = omega arith
-turn-low 84-1D e = omega arith
 
 -- two nibbles turn only where neither symbol is kept
 both-change : (w w′ : ℕ) (t : Turned w w′) → (symbolAt w′ (t .place) ≡ symbolAt w (t .place)) ⊎ (symbolAt w′ (t .place + 1) ≡ symbolAt w (t .place + 1)) → ⊥

@@ -3,6 +3,7 @@
 use Prim.Native.Nat.{ℕ, _+_, _*_, _/_, _%_, _^_, _<_}
 use mathlib.Core.Path.{_≡_}
 use mathlib.Core.Logic.{_⊎_}
+use mathlib.Core.List.{List, [], _∷_, List·Memᴰ}
 use Rattle.dshot_reply_spec.specs.Gcr.{replyNibble, replyWord, nibbleAt}
 
 abbrev pub bit : ℕ → ℕ → ℕ
@@ -17,12 +18,13 @@ pub record Moved (w w′ i j : ℕ) : Type 0 where
   pub free : bit w j ≡ 0
   pub moved : w′ + 2 ^ i ≡ w + 2 ^ j
 
--- two neighbouring nibbles turn 1,9 to 8,0 or 1,D to 8,4, or back
-pub data Turns : ℕ → ℕ → ℕ → ℕ → Type 0 where
-  19-80 : Turns 1 9 8 0
-  80-19 : Turns 8 0 1 9
-  1D-84 : Turns 1 13 8 4
-  84-1D : Turns 8 4 1 13
+-- which two neighbouring nibbles can turn into which: 1,9 into 8,0 and 1,D into 8,4, and back
+abbrev pub turns : List (List ℕ)
+turns = (1 ∷ 9 ∷ 8 ∷ 0 ∷ []) ∷ (8 ∷ 0 ∷ 1 ∷ 9 ∷ []) ∷ (1 ∷ 0xd ∷ 8 ∷ 4 ∷ []) ∷ (8 ∷ 4 ∷ 1 ∷ 0xd ∷ []) ∷ []
+
+-- the nibbles a, b turn into c, d: that is one of those rows
+abbrev pub Turns : ℕ → ℕ → ℕ → ℕ → Type 0
+Turns a b c d = List·Memᴰ (a ∷ b ∷ c ∷ d ∷ []) turns
 
 -- some two neighbouring nibbles of the word w, the checksum among them, turn so in w′
 pub record Turned (w w′ : ℕ) : Type 0 where

@@ -1,30 +1,21 @@
--- `dshot_reply::simulate::simulate_reply` answers and leaves the buffer as the simulated ESC does: a refusal leaves it as it was, and else it holds the reply's samples.
+-- `dshot_reply::simulate::simulate_reply` answers and leaves the buffer as the simulated ESC does: a refusal leaves it as it was, and else it
+-- holds the reply's samples.
 -- Assumes nothing.
-use mathlib.Core.Path.{_≡_}
+use mathlib.Core.Path.{_≡_, sym, ap, _∙_}
 use native.Mathlib.Omega.{arith}
 use lib.ListN.{length}
-use Rattle.dshot_reply.proofs.SimLaws.{too-short, no-mask, all-written}
 use borrow.Author.Needs.{needs}
+use Rattle.dshot_reply.specs.declared.simulate.Simulated.the-variants.{NoMask, WrongLength}
 use Rattle.dshot_reply.proofs.simulate.simulate_reply.Statement.{statement}
 use Rattle.dshot_reply.proofs.simulate.simulate_reply.Tie as tie
+use Rattle.dshot_reply.proofs.SimLaws.{accepted, all-written, kept}
+use Rattle.dshot_reply.specs.Answers.{simulatedNumber}
 
-returns : tie.Need-returns
-returns c =
-    let a = c .before .before .args in
-    too-short (a .out .now) (a .value) (a .lead) (a .pin-mask) (omega arith)
+answer-for-requires : tie.Need-answer-for-requires
+answer-for-requires c κs = search needs
 
-sub-if2 : tie.Need-sub-if2
-sub-if2 c = search needs
-
-returns-2 : tie.Need-returns-2
-returns-2 c =
-    let a = c .before .before .before .args in
-    too-short (a .out .now) (a .value) (a .lead) (a .pin-mask) (omega arith)
-
-returns-3 : tie.Need-returns-3
-returns-3 c =
-    let a = c .before .before .before .before .args in
-    no-mask (a .out .now) (a .value) (a .lead) (a .pin-mask) (omega arith) (c .if3 .taken)
+enum-told : tie.Need-enum-told
+enum-told c = search needs
 
 fill-requires : tie.Need-fill-requires
 fill-requires c κs = search needs
@@ -36,33 +27,56 @@ write-bits-requires : tie.Need-write-bits-requires
 write-bits-requires c κs =
     let f = c .before .before .before .before .fill in
     let a = c .before .before .before .before .before .before .before .before .before .before .args in
+    let told = c .before .before .before .before .before .before .enum-told .given .1 in
+    let room = accepted (a .out .now) (a .value) (a .lead) (a .pin-mask) (simulatedNumber (c .before .before .before .before .before .before .before .before .answer-for .result)) (c .before .before .before .before .before .before .before .before .answer-for .ensures) (ap simulatedNumber told) in
     let same : length (f .last .0) ≡ length (a .out .now) = f .kept .0 in
-    (omega (arith, same, c .before .before .before .before .before .before .before), cc)
+    (omega (arith, same, room .0), cc)
+
+enum-told-2 : tie.Need-enum-told-2
+enum-told-2 c = search needs
+
+enum-told-3 : tie.Need-enum-told-3
+enum-told-3 c = search needs
 
 same-length : tie.Need-same-length
 same-length c = search needs
 
-returns-4 : tie.Need-returns-4
-returns-4 c =
+returns : tie.Need-returns
+returns c =
     let f = c .before .before .before .before .before .before .before .fill in
     let w = c .before .before .before .reply-transitions-for in
     let b = c .before .before .write-bits in
-    let tested = c .before .before .before .before .before .before .before .before .before in
-    let a = tested .before .before .before .before .args in
+    let a = c .before .before .before .before .before .before .before .before .before .before .before .before .before .args in
+    let told = c .before .before .before .before .before .before .before .before .before .enum-told .given .1 in
+    let room = accepted (a .out .now) (a .value) (a .lead) (a .pin-mask) (simulatedNumber (c .before .before .before .before .before .before .before .before .before .before .before .answer-for .result)) (c .before .before .before .before .before .before .before .before .before .before .before .answer-for .ensures) (ap simulatedNumber told) in
     let same : length (f .last .0) ≡ length (a .out .now) = f .kept .0 in
-    let t = all-written (a .out .now) (a .value) (a .lead) (a .pin-mask) (omega (arith, tested .before)) (tested .if3 .left) in
+    let t = all-written (a .out .now) (a .value) (a .lead) (a .pin-mask) (room .0) (room .1) in
     (t .0, cc (b .ensures, w .ensures, same, t .1))
+
+returns-2 : tie.Need-returns-2
+returns-2 c =
+    let a = c .before .before .before .before .args in
+    let told = c .enum-told2 .given .1 in
+    kept (a .out .now) (a .value) (a .lead) (a .pin-mask) NoMask (sym (ap simulatedNumber told) ∙ c .before .before .answer-for .ensures) (λ e. omega arith)
+
+returns-3 : tie.Need-returns-3
+returns-3 c =
+    let a = c .before .before .before .before .args in
+    let told = c .enum-told3 .given .1 in
+    kept (a .out .now) (a .value) (a .lead) (a .pin-mask) WrongLength (sym (ap simulatedNumber told) ∙ c .before .before .answer-for .ensures) (λ e. omega arith)
 
 pub simulate-reply-spec : {M : Type 1} → statement M
 simulate-reply-spec =
     tie.close
     (tie.spec
-    returns
-    sub-if2
-    returns-2
-    returns-3
+    answer-for-requires
+    enum-told
     fill-requires
     reply-transitions-for-requires
     write-bits-requires
+    enum-told-2
+    enum-told-3
     same-length
-    returns-4)
+    returns
+    returns-2
+    returns-3)

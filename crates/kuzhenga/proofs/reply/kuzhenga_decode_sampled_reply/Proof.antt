@@ -1,0 +1,32 @@
+use borrow.Author.Needs.{needs}
+use Rattle.kuzhenga.proofs.reply.kuzhenga_decode_sampled_reply.Statement.{statement}
+use Rattle.kuzhenga.proofs.reply.kuzhenga_decode_sampled_reply.Tie as tie
+
+returns : tie.Need-returns
+returns c = ?
+
+cast-decode-sampled-reply : tie.Need-cast-decode-sampled-reply
+cast-decode-sampled-reply c = search needs
+
+decode-sampled-reply-requires : tie.Need-decode-sampled-reply-requires
+decode-sampled-reply-requires c κs = search needs
+
+put-reply-requires : tie.Need-put-reply-requires
+put-reply-requires c κs = search needs
+
+same-length : tie.Need-same-length
+same-length c = search needs
+
+returns-2 : tie.Need-returns-2
+returns-2 c = ?
+
+pub kuzhenga-decode-sampled-reply-spec : {M : Type 1} → statement M
+kuzhenga-decode-sampled-reply-spec =
+    tie.close
+    (tie.spec
+    returns
+    cast-decode-sampled-reply
+    decode-sampled-reply-requires
+    put-reply-requires
+    same-length
+    returns-2)

@@ -1,0 +1,60 @@
+use borrow.Author.Needs.{needs}
+use Rattle.kuzhenga.proofs.reply.put_reply.Statement.{statement}
+use Rattle.kuzhenga.proofs.reply.put_reply.Tie as tie
+
+enum-known-answer : tie.Need-enum-known-answer
+enum-known-answer c = search needs
+
+number-of-requires : tie.Need-number-of-requires
+number-of-requires c κs = search needs
+
+kind-of-requires : tie.Need-kind-of-requires
+kind-of-requires c κs = search needs
+
+slice-write-out : tie.Need-slice-write-out
+slice-write-out c = search needs
+
+cast-out : tie.Need-cast-out
+cast-out c = search needs
+
+slice-write-out-2 : tie.Need-slice-write-out-2
+slice-write-out-2 c = search needs
+
+cast-out-2 : tie.Need-cast-out-2
+cast-out-2 c = search needs
+
+slice-write-out-3 : tie.Need-slice-write-out-3
+slice-write-out-3 c = search needs
+
+enum-known-answer-2 : tie.Need-enum-known-answer-2
+enum-known-answer-2 c = search needs
+
+error-number-requires : tie.Need-error-number-requires
+error-number-requires c κs = search needs
+
+same-length : tie.Need-same-length
+same-length c = search needs
+
+returns : tie.Need-returns
+returns c = ?
+
+returns-2 : tie.Need-returns-2
+returns-2 c = ?
+
+pub put-reply-spec : {M : Type 1} → statement M
+put-reply-spec =
+    tie.close
+    (tie.spec
+    enum-known-answer
+    number-of-requires
+    kind-of-requires
+    slice-write-out
+    cast-out
+    slice-write-out-2
+    cast-out-2
+    slice-write-out-3
+    enum-known-answer-2
+    error-number-requires
+    same-length
+    returns
+    returns-2)
