@@ -1,3 +1,5 @@
+-- `kuzhenga::reply::kind_of` is the number of the reading's kind, in each arm of its match.
+-- Assumes nothing.
 use borrow.Author.Needs.{needs}
 use Rattle.kuzhenga.proofs.reply.kind_of.Statement.{statement}
 use Rattle.kuzhenga.proofs.reply.kind_of.Tie as tie
@@ -30,25 +32,25 @@ enum-told-6 : tie.Need-enum-told-6
 enum-told-6 c = search needs
 
 returns : tie.Need-returns
-returns c = ?
+returns c = cc
 
 returns-2 : tie.Need-returns-2
-returns-2 c = ?
+returns-2 c = cc
 
 returns-3 : tie.Need-returns-3
-returns-3 c = ?
+returns-3 c = cc
 
 returns-4 : tie.Need-returns-4
-returns-4 c = ?
+returns-4 c = cc
 
 returns-5 : tie.Need-returns-5
-returns-5 c = ?
+returns-5 c = cc
 
 returns-6 : tie.Need-returns-6
-returns-6 c = ?
+returns-6 c = cc
 
 returns-7 : tie.Need-returns-7
-returns-7 c = ?
+returns-7 c = cc
 
 pub kind-of-spec : {M : Type 1} → statement M
 kind-of-spec =

@@ -1,9 +1,15 @@
+-- `kuzhenga::reply::kuzhenga_decode_gcr` answers as `decodeWord`, with the value in its one slot; lent another number of slots, it answers 13.
+-- Assumes nothing.
+use mathlib.Core.Path.{refl, sym, ap, _∙_}
 use borrow.Author.Needs.{needs}
+use Rattle.dshot_reply.specs.Answers.{decodedAnswer}
+use Rattle.kuzhenga.specs.Slots.{one}
+use Rattle.kuzhenga.proofs.SlotLaws.{wrong-length, done, passed-on}
 use Rattle.kuzhenga.proofs.reply.kuzhenga_decode_gcr.Statement.{statement}
 use Rattle.kuzhenga.proofs.reply.kuzhenga_decode_gcr.Tie as tie
 
 returns : tie.Need-returns
-returns c = ?
+returns c = wrong-length one _ _ (c .if1 .taken)
 
 decode-gcr-requires : tie.Need-decode-gcr-requires
 decode-gcr-requires c κs = search needs
@@ -24,10 +30,17 @@ same-length : tie.Need-same-length
 same-length c = search needs
 
 returns-2 : tie.Need-returns-2
-returns-2 c = ?
+returns-2 c =
+    done one _ (c .before .before .before .before .if1 .left)
+    (sym (ap decodedAnswer (c .before .decoded .given .1)) ∙ c .before .before .before .decode-gcr .ensures)
+    refl
 
 returns-3 : tie.Need-returns-3
-returns-3 c = ?
+returns-3 c =
+    passed-on one _ (c .before .before .before .before .before .if1 .left)
+    (sym (ap decodedAnswer (c .before .before .error .given .1)) ∙ c .before .before .before .before .decode-gcr .ensures)
+    (c .error-number .ensures)
+    refl
 
 pub kuzhenga-decode-gcr-spec : {M : Type 1} → statement M
 kuzhenga-decode-gcr-spec =

@@ -1,9 +1,15 @@
+-- `kuzhenga::reply::kuzhenga_reply_transitions` answers as `transitionsOf`, with the word in its two slots; lent another number of slots, it answers 13.
+-- Assumes nothing.
+use mathlib.Core.Path.{refl, sym, ap, _∙_}
 use borrow.Author.Needs.{needs}
+use Rattle.dshot_reply.specs.Answers.{transitionsAnswer}
+use Rattle.kuzhenga.specs.Slots.{halves}
+use Rattle.kuzhenga.proofs.SlotLaws.{wrong-length, done, passed-on}
 use Rattle.kuzhenga.proofs.reply.kuzhenga_reply_transitions.Statement.{statement}
 use Rattle.kuzhenga.proofs.reply.kuzhenga_reply_transitions.Tie as tie
 
 returns : tie.Need-returns
-returns c = ?
+returns c = wrong-length halves _ _ (c .if1 .taken)
 
 cast-reply-transitions : tie.Need-cast-reply-transitions
 cast-reply-transitions c = search needs
@@ -36,10 +42,17 @@ same-length : tie.Need-same-length
 same-length c = search needs
 
 returns-2 : tie.Need-returns-2
-returns-2 c = ?
+returns-2 c =
+    done halves _ (c .before .before .before .before .if1 .left)
+    (sym (ap transitionsAnswer (c .before .transitions .given .1)) ∙ c .before .before .before .reply-transitions .ensures)
+    refl
 
 returns-3 : tie.Need-returns-3
-returns-3 c = ?
+returns-3 c =
+    passed-on halves _ (c .before .before .before .before .before .if1 .left)
+    (sym (ap transitionsAnswer (c .before .before .error .given .1)) ∙ c .before .before .before .before .reply-transitions .ensures)
+    (c .error-number .ensures)
+    refl
 
 pub kuzhenga-reply-transitions-spec : {M : Type 1} → statement M
 kuzhenga-reply-transitions-spec =

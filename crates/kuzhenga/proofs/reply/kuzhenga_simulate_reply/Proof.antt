@@ -1,4 +1,8 @@
+-- `kuzhenga::reply::kuzhenga_simulate_reply` answers and leaves the buffer as the simulated ESC does: each of the three answers has its number.
+-- Assumes nothing.
+use mathlib.Core.Path.{sym, ap, _∙_}
 use borrow.Author.Needs.{needs}
+use Rattle.dshot_reply.specs.Answers.{simulatedNumber}
 use Rattle.kuzhenga.proofs.reply.kuzhenga_simulate_reply.Statement.{statement}
 use Rattle.kuzhenga.proofs.reply.kuzhenga_simulate_reply.Tie as tie
 
@@ -24,19 +28,25 @@ same-length : tie.Need-same-length
 same-length c = search needs
 
 returns : tie.Need-returns
-returns c = ?
+returns c =
+    let s = c .before .before .before .before .simulate-reply .ensures in
+    (sym (ap simulatedNumber (c .enum-told .given .1)) ∙ s .0, s .1)
 
 same-length-2 : tie.Need-same-length-2
 same-length-2 c = search needs
 
 returns-2 : tie.Need-returns-2
-returns-2 c = ?
+returns-2 c =
+    let s = c .before .before .before .before .simulate-reply .ensures in
+    (sym (ap simulatedNumber (c .enum-told2 .given .1)) ∙ s .0, s .1)
 
 same-length-3 : tie.Need-same-length-3
 same-length-3 c = search needs
 
 returns-3 : tie.Need-returns-3
-returns-3 c = ?
+returns-3 c =
+    let s = c .before .before .before .before .simulate-reply .ensures in
+    (sym (ap simulatedNumber (c .enum-told3 .given .1)) ∙ s .0, s .1)
 
 pub kuzhenga-simulate-reply-spec : {M : Type 1} → statement M
 kuzhenga-simulate-reply-spec =

@@ -1,4 +1,10 @@
+-- `kuzhenga::reply::put_reply` has the number of the answer that it is given, and sets the three slots to the reading or leaves them as they were.
+-- Assumes nothing.
+use mathlib.Core.Path.{_∙_}
+use mathlib.Core.List.{_∷_}
 use borrow.Author.Needs.{needs}
+use Rattle.kuzhenga.specs.Slots.{halves}
+use Rattle.kuzhenga.proofs.SlotLaws.{all-set}
 use Rattle.kuzhenga.proofs.reply.put_reply.Statement.{statement}
 use Rattle.kuzhenga.proofs.reply.put_reply.Tie as tie
 
@@ -36,10 +42,12 @@ same-length : tie.Need-same-length
 same-length c = search needs
 
 returns : tie.Need-returns
-returns c = ?
+returns c =
+    let s = c .before .before .before .before .before .before in
+    (cc, all-set (s .args .out .now) (c .kind-of .result ∷ halves (c .before .number-of .result)) (s .pre) ∙ cc)
 
 returns-2 : tie.Need-returns-2
-returns-2 c = ?
+returns-2 c = (cc, cc)
 
 pub put-reply-spec : {M : Type 1} → statement M
 put-reply-spec =

@@ -1,0 +1,38 @@
+-- What an exported call answers and leaves in its slots, whatever their number and filling; and that a list with every slot set is what was stored.
+-- Assumes nothing.
+use Prim.Native.Nat.{ℕ, _+_}
+use mathlib.Core.Path.{_≡_, refl, sym, ap, _∙_}
+use mathlib.Core.List.{List, _++_, append-nil}
+use native.Mathlib.Omega.{arith}
+use lib.ListN.{length, drop-of-length-le}
+use lib.Seq.{sets, sets-eq}
+use borrow.Author.Tests.{eq-eqb, ne-eqb}
+use Rattle.dshot_reply_spec.specs.Answer.{Answer, given, refusalNumber}
+use Rattle.kuzhenga.specs.Slots.{asked, filled}
+
+-- every slot set, one after the other
+pub all-set : (out xs : List ℕ) → length out ≡ length xs → sets out 0 xs ≡ xs
+all-set out xs h =
+    sets-eq xs out 0 (omega arith)
+    ∙ ap (λ (l : List ℕ). xs ++ l) (drop-of-length-le out {i = 0 + length xs} (omega arith))
+    ∙ append-nil xs
+
+module _ {A : Type 0} (slots : A → List ℕ) (out : List ℕ) where
+  -- the number and the slots at exit of a call that asks for n slots and then answers a
+  abbrev pub Answers : ℕ → Answer A → ℕ → List ℕ → Type 0
+  Answers n a r exit = (r ≡ refusalNumber (asked n out a)) × (exit ≡ filled slots out (asked n out a))
+
+  pub wrong-length : {n : ℕ} (a : Answer A) → (length out ≡ n → ⊥) → Answers n a 13 out
+  unfolding asked
+  wrong-length {n} a h = rw (ne-eqb (length out) n h) (refl, refl)
+
+  -- an answer that is put into the slots is the call's
+  pub passed-on : {n r : ℕ} {a b : Answer A} {exit : List ℕ} → length out ≡ n → b ≡ a
+      → r ≡ refusalNumber b → exit ≡ filled slots out b → Answers n a r exit
+  unfolding asked
+  passed-on {n} h e f g = rw (eq-eqb (length out) n h, ← e) (f, g)
+
+  -- what was given, with every slot set
+  pub done : {n : ℕ} {a : Answer A} {x : A} → length out ≡ n → given x ≡ a → length (slots x) ≡ n
+      → Answers n a 0 (sets out 0 (slots x))
+  done {x = x} h e l = passed-on h e refl (all-set out (slots x) (h ∙ sym l))
