@@ -1,4 +1,4 @@
--- What the code's sum of four nibbles, or marks of bad symbols, tells.
+-- What the sum of three nibbles, or marks of bad symbols, and the fourth tell of a word.
 -- Assumes nothing.
 use mathlib.Core.Path.{_≡_, sym, subst, refl, ap, _∙_}
 use mathlib.Core.Logic.{_⊎_, inl, inr, ⊎-elim}
@@ -23,13 +23,6 @@ Mark x = (x ≡ 255) ⊎ (x < 16)
 
 mark : (w p : ℕ) → Mark (nibbleAt w p)
 mark w p = ⊎-elim inl (λ n. inr (nibble-small (symbolAt w p) (symbol-small w p) n)) (equal-or-not (nibbleAt w p) 255)
-
-sum-bad : (a b c d : ℕ) → Mark a → Mark b → Mark c → Mark d → 60 < a + b + c + d → fromNibbles a b c d ≡ refused invalidSymbol
-sum-bad a b c d (inl e) y z u h = bad a b c d (inl e)
-sum-bad a b c d (inr x) (inl e) z u h = bad a b c d (inr (inl e))
-sum-bad a b c d (inr x) (inr y) (inl e) u h = bad a b c d (inr (inr (inl e)))
-sum-bad a b c d (inr x) (inr y) (inr z) (inl e) h = bad a b c d (inr (inr (inr e)))
-sum-bad a b c d (inr x) (inr y) (inr z) (inr u) h = absurd (omega arith)
 
 -- a nibble and the mark of a bad symbol do not make 0xF
 apart-test : ℕ → Bool
@@ -79,8 +72,12 @@ module _ (w a b c d : ℕ) (ea : a ≡ nibbleOf (w / 32768 % 32)) (eb : b ≡ ni
       same : {a b c d a′ b′ c′ d′ : ℕ} → a ≡ a′ → b ≡ b′ → c ≡ c′ → d ≡ d′ → fromNibbles a b c d ≡ fromNibbles a′ b′ c′ d′
       same e f g h = cc
 
-  pub decode-bad : 60 < a + b + c + d → decodeWord w ≡ refused invalidSymbol
-  decode-bad h = whole ∙ sum-bad a b c d mark3 mark2 mark1 mark0 h
+  pub decode-last : 15 < d → decodeWord w ≡ refused invalidSymbol
+  decode-last h = go mark0
+    where
+      go : Mark d → decodeWord w ≡ refused invalidSymbol
+      go (inl e) = whole ∙ bad a b c d (inr (inr (inr e)))
+      go (inr l) = absurd (omega arith)
 
   places : ℕ → ℕ
   places zero = d

@@ -333,7 +333,7 @@ pub enum Decoded {
 }
 
 // Decodes a reply's transition bits to its 12-bit value, checking every symbol and the checksum. The start edge, bit 20, is ignored. Three
-// nibbles sum up to 45 at most, four to 60, and one bad symbol to more; where the four XOR to all ones and three are nibbles, so is the fourth.
+// nibbles sum up to 45 at most, and one bad symbol to more; where three are nibbles and all four XOR to all ones, the fourth is one too.
 pub fn decode_gcr(transitions: u32) -> Decoded
     ensures { λ r. ⌜ decodedAnswer r ≡ decodeWord transitions ⌝ }
 {
@@ -342,17 +342,18 @@ pub fn decode_gcr(transitions: u32) -> Decoded
     let b = symbol_nibble(&table, transitions / 1024 % 32);
     let c = symbol_nibble(&table, transitions / 32 % 32);
     let d = symbol_nibble(&table, transitions % 32);
-    if a ^ b ^ c ^ d == 15 {
-        if a + b + c < 46 {
+    if a + b + c < 46 {
+        // The nibbles of value and checksum XOR to all ones.
+        if a ^ b ^ c ^ d == 15 {
             let value = a * 256 + b * 16 + c;
             return Decoded::Value(value as u16);
         }
+        if d < 16 {
+            return Decoded::Refused(DshotReplyError::Checksum);
+        }
         return Decoded::Refused(DshotReplyError::InvalidSymbol);
     }
-    if 60 < a + b + c + d {
-        return Decoded::Refused(DshotReplyError::InvalidSymbol);
-    }
-    Decoded::Refused(DshotReplyError::Checksum)
+    Decoded::Refused(DshotReplyError::InvalidSymbol)
 }
 
 // One decoded reply.

@@ -1,4 +1,4 @@
--- `dshot_reply::decode_gcr` meets its contract.
+-- `dshot_reply::decode_gcr` meets its contract: each return is one of the laws of four nibbles, or marks of bad symbols, by their sums.
 -- Assumes nothing.
 use mathlib.Core.Path.{_≡_, sym}
 use native.Mathlib.Omega.{arith}
@@ -7,7 +7,7 @@ use Rattle.dshot_reply.proofs.decode_gcr.Statement.{statement}
 use Rattle.dshot_reply.proofs.decode_gcr.Tie as tie
 use Rattle.dshot_reply_spec.proofs.Decode.{taken}
 use Rattle.dshot_reply_spec.specs.Simulate.{left}
-use Rattle.dshot_reply.proofs.DecodeLaws.{decode-bad, decode-three, decode-unequal, decode-value}
+use Rattle.dshot_reply.proofs.DecodeLaws.{decode-last, decode-three, decode-unequal, decode-value}
 use Rattle.dshot_reply.proofs.Tables.{decodes}
 
 symbol-nibble-requires : tie.Need-symbol-nibble-requires
@@ -22,11 +22,11 @@ symbol-nibble-requires-3 c κs = (decodes, search needs)
 symbol-nibble-requires-4 : tie.Need-symbol-nibble-requires-4
 symbol-nibble-requires-4 c κs = (decodes, search needs)
 
-add-if2 : tie.Need-add-if2
-add-if2 c = search needs
+add-if1 : tie.Need-add-if1
+add-if1 c = search needs
 
-add-if2-2 : tie.Need-add-if2-2
-add-if2-2 c = search needs
+add-if1-2 : tie.Need-add-if1-2
+add-if1-2 c = search needs
 
 mul-value : tie.Need-mul-value
 mul-value c = search needs
@@ -50,43 +50,34 @@ returns c =
     let b = c .before .before .before .before .before .before .symbol-nibble2 in
     let d = c .before .before .before .before .symbol-nibble3 in
     let e = c .before .before .symbol-nibble4 in
-    sym (decode-value w (a .result) (b .result) (d .result) (e .result) (a .ensures .0) (b .ensures .0) (d .ensures .0) (e .ensures .0) (c .if2 .taken) (c .before .if1 .taken))
+    sym (decode-value w (a .result) (b .result) (d .result) (e .result) (a .ensures .0) (b .ensures .0) (d .ensures .0) (e .ensures .0) (c .before .if1 .taken) (c .if2 .taken))
 
 returns-2 : tie.Need-returns-2
 returns-2 c =
-    let w = c .before .before .before .before .before .before .before .before .before .before .args .transitions in
-    let a = c .before .before .before .before .before .before .before .before .symbol-nibble in
-    let b = c .before .before .before .before .before .before .symbol-nibble2 in
-    let d = c .before .before .before .before .symbol-nibble3 in
-    let e = c .before .before .symbol-nibble4 in
-    sym (decode-three w (a .result) (b .result) (d .result) (e .result) (a .ensures .0) (b .ensures .0) (d .ensures .0) (e .ensures .0) (omega arith))
-
-add-if3 : tie.Need-add-if3
-add-if3 c = search needs
-
-add-if3-2 : tie.Need-add-if3-2
-add-if3-2 c = search needs
-
-add-if3-3 : tie.Need-add-if3-3
-add-if3-3 c = search needs
+    let w = c .before .before .before .before .before .before .before .before .before .before .before .args .transitions in
+    let a = c .before .before .before .before .before .before .before .before .before .symbol-nibble in
+    let b = c .before .before .before .before .before .before .before .symbol-nibble2 in
+    let d = c .before .before .before .before .before .symbol-nibble3 in
+    let e = c .before .before .before .symbol-nibble4 in
+    sym (decode-unequal w (a .result) (b .result) (d .result) (e .result) (a .ensures .0) (b .ensures .0) (d .ensures .0) (e .ensures .0) (omega arith) (c .before .if2 .left))
 
 returns-3 : tie.Need-returns-3
 returns-3 c =
-    let w = c .before .before .before .before .before .before .before .before .before .before .args .transitions in
-    let a = c .before .before .before .before .before .before .before .before .symbol-nibble in
-    let b = c .before .before .before .before .before .before .symbol-nibble2 in
-    let d = c .before .before .before .before .symbol-nibble3 in
-    let e = c .before .before .symbol-nibble4 in
-    sym (decode-bad w (a .result) (b .result) (d .result) (e .result) (a .ensures .0) (b .ensures .0) (d .ensures .0) (e .ensures .0) (c .if3 .taken))
+    let w = c .before .before .before .before .before .before .before .before .before .before .before .args .transitions in
+    let a = c .before .before .before .before .before .before .before .before .before .symbol-nibble in
+    let b = c .before .before .before .before .before .before .before .symbol-nibble2 in
+    let d = c .before .before .before .before .before .symbol-nibble3 in
+    let e = c .before .before .before .symbol-nibble4 in
+    sym (decode-last w (a .result) (b .result) (d .result) (e .result) (a .ensures .0) (b .ensures .0) (d .ensures .0) (e .ensures .0) (omega arith))
 
 returns-4 : tie.Need-returns-4
 returns-4 c =
-    let w = c .before .before .before .before .before .before .before .before .before .before .args .transitions in
-    let a = c .before .before .before .before .before .before .before .before .symbol-nibble in
-    let b = c .before .before .before .before .before .before .symbol-nibble2 in
-    let d = c .before .before .before .before .symbol-nibble3 in
-    let e = c .before .before .symbol-nibble4 in
-    sym (decode-unequal w (a .result) (b .result) (d .result) (e .result) (a .ensures .0) (b .ensures .0) (d .ensures .0) (e .ensures .0) (omega arith) (c .before .if1 .left))
+    let w = c .before .before .before .before .before .before .before .before .before .args .transitions in
+    let a = c .before .before .before .before .before .before .before .symbol-nibble in
+    let b = c .before .before .before .before .before .symbol-nibble2 in
+    let d = c .before .before .before .symbol-nibble3 in
+    let e = c .before .symbol-nibble4 in
+    sym (decode-three w (a .result) (b .result) (d .result) (e .result) (a .ensures .0) (b .ensures .0) (d .ensures .0) (e .ensures .0) (omega arith))
 
 pub decode-gcr-spec : {M : Type 1} → statement M
 decode-gcr-spec =
@@ -96,8 +87,8 @@ decode-gcr-spec =
     symbol-nibble-requires-2
     symbol-nibble-requires-3
     symbol-nibble-requires-4
-    add-if2
-    add-if2-2
+    add-if1
+    add-if1-2
     mul-value
     mul-value-2
     add-value
@@ -105,8 +96,5 @@ decode-gcr-spec =
     cast-t23
     returns
     returns-2
-    add-if3
-    add-if3-2
-    add-if3-3
     returns-3
     returns-4)
