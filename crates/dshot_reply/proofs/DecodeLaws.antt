@@ -1,15 +1,14 @@
 -- What the sum of three nibbles, or marks of bad symbols, and the fourth tell of a word.
 -- Assumes nothing.
-use mathlib.Core.Path.{_≡_, sym, subst, refl, ap, _∙_}
+use mathlib.Core.Path.{_≡_, sym, subst, _∙_}
 use mathlib.Core.Logic.{_⊎_, inl, inr, ⊎-elim}
-use mathlib.Core.Bool.{Bool, true, false, not}
-use Prim.Native.Nat.{ℕ, zero, suc, _+_, _*_, _-_, _/_, _%_, _^_, _<_, _≤_}
+use mathlib.Core.Bool.{Bool, not}
+use Prim.Native.Nat.{ℕ, zero, suc, _+_, _*_, _/_, _%_, _<_}
 use native.Mathlib.Nat.{div-one}
 use native.Mathlib.Omega.{arith}
 use lib.Bits.{bitXor}
-use lib.Dec.{T, eqb, eqb→eq, lit<}
+use lib.Dec.{eqb}
 use borrow.Author.Tests.{eq-eqb}
-use lib.ListN.{getD}
 use Rattle.dshot_reply_spec.proofs.Damage.{equal-or-not, symbol-small}
 use Rattle.dshot_reply_spec.proofs.Decode.{bad, taken, unequal}
 use Rattle.dshot_reply_spec.proofs.GcrLaws.{nibble-small}

@@ -2,7 +2,7 @@
 -- Assumes nothing.
 use mathlib.Core.Bool.{Bool}
 use mathlib.Core.List.{List, [], _∷_}
-use Prim.Native.Nat.{ℕ, _<_}
+use Prim.Native.Nat.{ℕ}
 use lib.Dec.{eqb, eqb→eq}
 use lib.ListN.{getD}
 use Rattle.dshot_reply_spec.proofs.GcrLaws.{symbol-lt}

@@ -1,13 +1,12 @@
 -- Two neighbouring bits of a number of five or ten bits that change places, by tests that antt computes.
 -- Assumes nothing.
-use mathlib.Core.Path.{_≡_, sym, subst, refl, ap, _∙_}
-use mathlib.Core.Logic.{_⊎_, inl, inr, ⊎-elim}
+use mathlib.Core.Path.{_≡_, sym, refl, ap, _∙_}
 use mathlib.Core.Bool.{Bool, true, false, not, Bool·beq}
 use mathlib.Core.List.{List, [], _∷_}
 use lib.ListN.{getD}
-use Prim.Native.Nat.{ℕ, zero, suc, _+_, _*_, _-_, _/_, _%_, _^_, _<_, _≤_}
+use Prim.Native.Nat.{ℕ, _+_, _*_, _-_, _/_, _%_, _^_, _<_, _≤_}
 use native.Mathlib.Omega.{arith}
-use lib.Dec.{T, eqb, leb, ltb, eqb→eq, eqb-refl, leb→le, ltb→lt}
+use lib.Dec.{T, eqb, leb, ltb, leb→le, ltb→lt}
 use lib.Bits.{bitXor}
 use lib.Pow.{field, mod-mod-pow}
 use borrow.Author.Tests.{eq-eqb}

@@ -3,14 +3,13 @@
 use mathlib.Core.Path.{_≡_, sym, subst, refl, ap, _∙_}
 use mathlib.Core.Logic.{_⊎_, inl, inr, ⊎-elim}
 use mathlib.Core.Bool.{Bool, true, false}
-use Prim.Native.Nat.{ℕ, zero, suc, _+_, _*_, _-_, _/_, _%_, _^_, _<_, _≤_}
+use Prim.Native.Nat.{ℕ, zero, suc, _+_, _<_}
 use native.Mathlib.Omega.{arith}
 use lib.Bits.{bitXor}
 use lib.Dec.{eqb}
 use borrow.Author.Tests.{eqb-true, eqb-false}
 use Rattle.dshot_reply_spec.proofs.Decode.{bad, nibble-lt, nibbles-xor, reply-nibble, reply-symbol, unequal, xorOf}
 use Rattle.dshot_reply_spec.proofs.GcrLaws.{nibble-small, symbol-back}
-use Rattle.dshot_reply_spec.proofs.Table.{at}
 use Rattle.dshot_reply_spec.proofs.XorLaws.{assoc, cancel-left, cancel-right, nibble-xor}
 use Rattle.dshot_reply_spec.specs.Answer.{Answer, invalidSymbol, refused, wrongChecksum}
 use Rattle.dshot_reply_spec.specs.Gcr.{decodeWord, fromNibbles, nibbleOf, replyNibble, replyWord, symbolAt, symbolOf}

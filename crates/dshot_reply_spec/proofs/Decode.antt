@@ -1,15 +1,15 @@
 -- What four nibbles decode to, the symbols of a word, and that a word which decodes is the reply word of its value.
 -- Assumes nothing.
-use mathlib.Core.Path.{_≡_, sym, subst, refl, ap, _∙_}
-use mathlib.Core.Logic.{_⊎_, inl, inr, ⊎-elim}
+use mathlib.Core.Path.{_≡_, sym, refl, ap, _∙_}
+use mathlib.Core.Logic.{_⊎_, inl, inr}
 use mathlib.Core.Bool.{Bool, true, false}
-use Prim.Native.Nat.{ℕ, zero, suc, _+_, _*_, _-_, _/_, _%_, _^_, _<_, _≤_}
+use Prim.Native.Nat.{ℕ, zero, suc, _+_, _*_, _/_, _%_, _^_, _<_}
 use native.Mathlib.Nat.{div-one, div-div-eq-div-mul}
 use native.Mathlib.Omega.{arith}
 use lib.Arith.{digits-div, digits-mod, mod-mul}
-use lib.Bits.{bitXor, xor-lt}
-use lib.Dec.{T, eqb, leb, ltb, eqb→eq, ltb→lt, lit<}
-use borrow.Author.Tests.{eq-eqb, ne-eqb, eqb-true, eqb-false}
+use lib.Bits.{bitXor}
+use lib.Dec.{eqb, lit<}
+use borrow.Author.Tests.{eq-eqb, ne-eqb}
 use Rattle.dshot_reply_spec.proofs.GcrLaws.{eight-bad, read-back, symbol-back, symbol-lt}
 use Rattle.dshot_reply_spec.proofs.XorLaws.{cancel-left, complement, nibble-xor}
 use Rattle.dshot_reply_spec.specs.Answer.{Answer, given, invalidSymbol, pick, refused, wrongChecksum}

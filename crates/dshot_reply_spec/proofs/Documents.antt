@@ -1,6 +1,6 @@
 -- The reply word, the line, the decoder and the readings are those that the documents describe (specs/Betaflight and specs/Edt).
 -- Assumes nothing.
-use mathlib.Core.Path.{_≡_, sym, subst, refl, ap, _∙_}
+use mathlib.Core.Path.{_≡_, sym, refl, ap, _∙_}
 use mathlib.Core.Logic.{inl, inr, ⊎-elim}
 use mathlib.Core.Bool.{Bool, true, false, _||_}
 use mathlib.Core.List.{List, [], _∷_, _++_}
@@ -17,7 +17,6 @@ use Rattle.dshot_reply_spec.proofs.Damage.{equal-or-not, small-nibbles}
 use Rattle.dshot_reply_spec.proofs.Decode.{bad, decode-reply, nibble-lt, reply-symbol, start-edge, taken, unequal, value-lt, word-again, xorOf}
 use Rattle.dshot_reply_spec.proofs.Shift.{bit-above, symbol-below}
 use Rattle.dshot_reply_spec.proofs.SimulatedRenders.{low-bits}
-use Rattle.dshot_reply_spec.proofs.Table.{at}
 use Rattle.dshot_reply_spec.proofs.XorLaws.{assoc, nibble-xor}
 use Rattle.dshot_reply_spec.specs.Answer.{Answer, given, pick, refused}
 use Rattle.dshot_reply_spec.specs.Betaflight.{crc, gcr, lineFrom, nearest, numberFrom, period, replyBits, replyLine, sampled, speed}

@@ -3,9 +3,9 @@
 use mathlib.Core.Path.{_≡_, sym, subst, refl, ap, _∙_}
 use mathlib.Core.Logic.{_⊎_, inl, inr, ⊎-elim}
 use mathlib.Core.Bool.{Bool, true, false}
-use Prim.Native.Nat.{ℕ, zero, suc, _+_, _*_, _-_, _/_, _%_, _^_, _<_, _≤_}
+use Prim.Native.Nat.{ℕ, _+_, _*_, _-_, _/_, _%_, _^_, _<_, _≤_}
 use native.Mathlib.Numerals.{add-one}
-use native.Mathlib.Nat.{eq-or-lt-of-le, mod-le, mod-lt, div-one, pow-suc}
+use native.Mathlib.Nat.{eq-or-lt-of-le, mod-le, mod-lt}
 use native.Mathlib.Omega.{arith}
 use lib.Arith.{digits-div, digits-mod}
 use lib.Dec.{T, eqb, eqb→eq}
@@ -17,7 +17,7 @@ use Rattle.dshot_reply_spec.proofs.Damage.{Undecoded, damaged, equal-or
 use Rattle.dshot_reply_spec.proofs.Decode.{nibble-lt, nibbles-xor, reply-nibble, reply-symbol, start-edge, value-lt, value-nibble, word-again, xorOf}
 use Rattle.dshot_reply_spec.proofs.Rendered.{lt-or-ge}
 use Rattle.dshot_reply_spec.proofs.Shift.{above, bit-above, symbol-above, symbol-below, under}
-use Rattle.dshot_reply_spec.proofs.Table.{at, both, both-right}
+use Rattle.dshot_reply_spec.proofs.Table.{both, both-right}
 use Rattle.dshot_reply_spec.specs.Answer.{pick}
 use Rattle.dshot_reply_spec.specs.Gcr.{decodeWord, nibbleOf, replyNibble, replyWord, symbolAt, symbolOf}
 use Rattle.dshot_reply_spec.specs.Move.{Formed, Moved, Turned, Turns, bit, turns, wordValue}

@@ -1,11 +1,11 @@
 -- A capture that renders a word is read as that word, or, where its last run is too long, as no reply.
 -- Assumes nothing.
-use mathlib.Core.Path.{_≡_, sym, subst, refl, ap, _∙_}
+use mathlib.Core.Path.{_≡_, sym, refl, ap, _∙_}
 use mathlib.Core.Logic.{_⊎_, inl, inr, ⊎-elim}
 use mathlib.Core.Bool.{Bool, true, false, not}
 use mathlib.Core.List.{List, [], _∷_, _++_, map}
 use Prim.Native.Nat.{ℕ, zero, suc, pred, _+_, _*_, _-_, _/_, _%_, _^_, _<_, _≤_}
-use native.Mathlib.Nat.{mul-comm, le-mul-of-pos-right, mul-assoc, zero-add, add-zero, add-assoc, add-suc, suc-add, add-sub-cancel-left}
+use native.Mathlib.Nat.{mul-comm, le-mul-of-pos-right, mul-assoc, zero-add, add-zero, add-suc, suc-add}
 use native.Mathlib.Omega.{arith}
 use borrow.Author.Tests.{ltb-true, ltb-false, lt-ltb, le-ltb, le-leb}
 use lib.Dec.{ltb, leb}

@@ -1,6 +1,6 @@
 -- Rows of a table: a test finds just the rows that are there, and what every row passes in a test holds of each.
 -- Assumes nothing.
-use mathlib.Core.Path.{_≡_, sym, subst, refl, _∙_}
+use mathlib.Core.Path.{_≡_, sym, subst, refl}
 use mathlib.Core.Bool.{Bool, true, false}
 use mathlib.Core.List.{List, [], _∷_, List·Memᴰ, List·Memᴰ·head, List·Memᴰ·tail}
 use Prim.Native.Nat.{ℕ}

@@ -1,11 +1,9 @@
 -- A word in which two neighbouring bits change places: its symbols at and above place q are those of what stands above the bits below 5q, and
 -- only the two symbols from there change.
 -- Assumes nothing.
-use mathlib.Core.Path.{_≡_, sym, subst, refl, ap, _∙_}
-use mathlib.Core.Logic.{_⊎_, inl, inr, ⊎-elim}
-use mathlib.Core.Bool.{Bool, true, false}
-use Prim.Native.Nat.{ℕ, zero, suc, _+_, _*_, _-_, _/_, _%_, _^_, _<_, _≤_}
-use native.Mathlib.Nat.{add-mul, mod-lt, div-div-eq-div-mul}
+use mathlib.Core.Path.{_≡_, sym, subst, ap, _∙_}
+use Prim.Native.Nat.{ℕ, _+_, _*_, _-_, _/_, _%_, _^_, _<_, _≤_}
+use native.Mathlib.Nat.{add-mul, mod-lt}
 use native.Mathlib.Omega.{arith}
 use lib.Arith.{digits-div, digits-mod}
 use lib.Pow.{pow-pos, pow-add, shr-shr, field, mod-mod-pow, split}

@@ -1,18 +1,16 @@
 -- The simulated ESC's capture of a word renders the word.
 -- Assumes nothing.
 use mathlib.Core.Path.{_≡_, sym, subst, refl, ap, _∙_}
-use mathlib.Core.Logic.{_⊎_, inl, inr, ⊎-elim}
 use mathlib.Core.Bool.{Bool, true, false, not}
 use mathlib.Core.List.{List, [], _∷_, _++_, append-assoc}
 use Prim.Native.Nat.{ℕ, zero, suc, _+_, _*_, _-_, _/_, _%_, _^_, _<_, _≤_}
-use native.Mathlib.Nat.{mul-zero, mul-suc, mul-add, mul-one, mod-lt, mul-assoc, add-mul, add-suc, add-zero, mod-one}
+use native.Mathlib.Nat.{mul-zero, mul-suc, mul-add, mul-one, mul-assoc, add-mul, add-zero, mod-one}
 use native.Mathlib.Omega.{arith}
 use lib.Dec.{eqb}
-use lib.ListN.{length, take, drop, replicate, length-append, length-replicate, replicate-append-replicate}
+use lib.ListN.{length, take, replicate, length-append, length-replicate, replicate-append-replicate}
 use lib.Seq.{take-append-add, take-append-seam}
-use lib.Pow.{pow-add, pow-pos, mod-pow-add, split}
-use borrow.Author.Tests.{eqb-true, eqb-false, eq-eqb, ne-eqb}
-use Rattle.dshot_reply_spec.proofs.Table.{at}
+use lib.Pow.{pow-add, mod-pow-add, split}
+use borrow.Author.Tests.{eqb-true, eqb-false}
 use Rattle.dshot_reply_spec.specs.Answer.{pick}
 use Rattle.dshot_reply_spec.specs.Move.{bit}
 use Rattle.dshot_reply_spec.specs.Render.{Renders, Runs, closed-low, open-end, run}

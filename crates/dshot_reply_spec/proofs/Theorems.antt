@@ -1,7 +1,7 @@
 -- What the reader answers for a capture that renders a reply word, a damaged one, and one with a moved edge: demand 3's claims of the reader,
 -- at samples and mask, for every number of samples a bit.
 -- Assumes nothing.
-use mathlib.Core.Path.{_≡_, sym, subst, subst⁻¹, refl, ap, _∙_}
+use mathlib.Core.Path.{_≡_, subst, refl, ap, _∙_}
 use mathlib.Core.Logic.{_⊎_, inl, inr, ⊎-elim}
 use mathlib.Core.Bool.{Bool, true, false, not, _&&_, _||_}
 use mathlib.Core.List.{List}

@@ -1,8 +1,8 @@
 -- The exclusive or of nibbles, by tests that antt computes.
 -- Assumes nothing.
-use mathlib.Core.Path.{_≡_, sym, subst, refl, ap, _∙_}
-use mathlib.Core.Bool.{Bool, true, false}
-use Prim.Native.Nat.{ℕ, zero, suc, _+_, _*_, _-_, _/_, _%_, _^_, _<_, _≤_}
+use mathlib.Core.Path.{_≡_, sym, ap, _∙_}
+use mathlib.Core.Bool.{Bool}
+use Prim.Native.Nat.{ℕ, _<_}
 use lib.Bits.{bitXor, xor-lt, xor-comm}
 use lib.Dec.{T, eqb, eqb→eq}
 use Rattle.dshot_reply_spec.proofs.Table.{at, below}

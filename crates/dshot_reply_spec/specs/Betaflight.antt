@@ -1,8 +1,8 @@
 -- A bidirectional DShot reply as Betaflight's DShot documents describe it, bit by bit as it goes over the wire. Written from what those
 -- documents say, as far as that is known without their text at hand (docs/DIFFERENCES.md), and not from the code.
 -- Assumes nothing.
-use Prim.Native.Nat.{ℕ, suc, _+_, _-_, _*_, _/_, _%_, _^_}
-use mathlib.Core.Bool.{Bool, true, false, not}
+use Prim.Native.Nat.{ℕ, _+_, _-_, _*_, _/_, _%_, _^_}
+use mathlib.Core.Bool.{Bool, false, not}
 use mathlib.Core.List.{List, [], _∷_, _++_}
 use lib.Dec.{eqb}
 use lib.Bits.{bitXor}

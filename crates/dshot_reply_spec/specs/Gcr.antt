@@ -2,7 +2,6 @@
 -- each nibble, the word of four symbols that a value is sent as, and what a word decodes to.
 -- Assumes nothing.
 use Prim.Native.Nat.{ℕ, zero, suc, _+_, _*_, _/_, _%_, _^_}
-use mathlib.Core.Bool.{Bool}
 use mathlib.Core.List.{List, [], _∷_}
 use lib.Dec.{eqb}
 use lib.Bits.{bitXor}

@@ -1,8 +1,8 @@
 -- The simulated ESC, added by document 01: the levels and samples of a capture of a word, s samples a bit.
 -- Assumes nothing.
 use Prim.Native.Nat.{ℕ, zero, suc, _+_, _-_, _*_}
-use mathlib.Core.Bool.{Bool, true, false, not}
-use mathlib.Core.List.{List, [], _∷_, _++_, map}
+use mathlib.Core.Bool.{Bool, true, not}
+use mathlib.Core.List.{List, [], _++_, map}
 use lib.Dec.{eqb, ltb}
 use lib.ListN.{length, replicate}
 use Rattle.dshot_reply_spec.specs.Answer.{Answer, given, refused, pick}

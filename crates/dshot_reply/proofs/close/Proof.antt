@@ -6,8 +6,6 @@ use borrow.Author.Tests.{lt-ltb, le-ltb}
 use borrow.Author.Needs.{needs}
 use Rattle.dshot_reply.proofs.close.Statement.{statement}
 use Rattle.dshot_reply.proofs.close.Tie as tie
-use Rattle.dshot_reply_spec.proofs.Decode.{taken}
-use Rattle.dshot_reply_spec.specs.Simulate.{left}
 use Rattle.dshot_reply.proofs.WordLaws.{push-room}
 use Rattle.dshot_reply.specs.Steps.{closed}
 

@@ -1,12 +1,10 @@
 -- `dshot_reply::decode_gcr` meets its contract: each return is one of the laws of four nibbles, or marks of bad symbols, by their sums.
 -- Assumes nothing.
-use mathlib.Core.Path.{_≡_, sym}
+use mathlib.Core.Path.{sym}
 use native.Mathlib.Omega.{arith}
 use borrow.Author.Needs.{needs}
 use Rattle.dshot_reply.proofs.decode_gcr.Statement.{statement}
 use Rattle.dshot_reply.proofs.decode_gcr.Tie as tie
-use Rattle.dshot_reply_spec.proofs.Decode.{taken}
-use Rattle.dshot_reply_spec.specs.Simulate.{left}
 use Rattle.dshot_reply.proofs.DecodeLaws.{decode-last, decode-three, decode-unequal, decode-value}
 use Rattle.dshot_reply.proofs.Tables.{decodes}
 

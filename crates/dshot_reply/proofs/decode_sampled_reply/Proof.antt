@@ -1,11 +1,11 @@
 -- `dshot_reply::decode_sampled_reply` meets its contract.
 -- Assumes nothing.
-use mathlib.Core.Path.{_≡_, sym, ap, _∙_}
+use mathlib.Core.Path.{sym, ap, _∙_}
 use Prim.Native.Nat.{ℕ}
 use borrow.Author.Needs.{needs}
 use Rattle.dshot_reply.proofs.decode_sampled_reply.Statement.{statement}
 use Rattle.dshot_reply.proofs.decode_sampled_reply.Tie as tie
-use Rattle.dshot_reply_spec.specs.Answer.{Answer, given, then}
+use Rattle.dshot_reply_spec.specs.Answer.{Answer, then}
 use Rattle.dshot_reply_spec.specs.Reading.{sampledReply, wordReply}
 use Rattle.dshot_reply.specs.Answers.{transitionsAnswer}
 

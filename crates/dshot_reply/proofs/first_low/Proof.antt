@@ -1,6 +1,5 @@
 -- `dshot_reply::first_low` meets its contract: the high samples end at the first low one.
 -- Assumes nothing.
-use mathlib.Core.Path.{_≡_, sym, _∙_}
 use native.Mathlib.Omega.{arith}
 use lib.ListN.{drop}
 use borrow.Author.Needs.{needs}

@@ -3,8 +3,6 @@
 use borrow.Author.Needs.{needs}
 use Rattle.dshot_reply.proofs.next_edge.Statement.{statement}
 use Rattle.dshot_reply.proofs.next_edge.Tie as tie
-use Rattle.dshot_reply_spec.proofs.Decode.{taken}
-use Rattle.dshot_reply_spec.specs.Simulate.{left}
 
 run-end-requires : tie.Need-run-end-requires
 run-end-requires c κs = search needs

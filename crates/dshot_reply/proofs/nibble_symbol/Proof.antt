@@ -1,6 +1,5 @@
 -- `dshot_reply::nibble_symbol` meets its contract.
 -- Assumes nothing.
-use mathlib.Core.Path.{refl}
 use borrow.Author.Needs.{needs}
 use Rattle.dshot_reply.proofs.nibble_symbol.Statement.{statement}
 use Rattle.dshot_reply.proofs.nibble_symbol.Tie as tie

@@ -3,7 +3,6 @@
 use borrow.Author.Needs.{needs}
 use Rattle.dshot_reply.proofs.push_run.Statement.{statement}
 use Rattle.dshot_reply.proofs.push_run.Tie as tie
-use Rattle.dshot_reply_spec.specs.Render.{run}
 use Rattle.dshot_reply.proofs.WordLaws.{push-or}
 
 shl-result : tie.Need-shl-result

@@ -1,7 +1,7 @@
 -- `dshot_reply::read_runs` meets its contract: what is left to read is assembled after what has been read, and each run adds a bit or more.
 -- Assumes nothing.
 use mathlib.Core.Path.{_≡_, sym, _∙_}
-use Prim.Native.Nat.{ℕ, _+_, _-_, _^_, _≤_, _<_}
+use Prim.Native.Nat.{_+_, _-_, _^_, _≤_, _<_}
 use native.Mathlib.Omega.{arith}
 use mathlib.Core.Bool.{false, not}
 use lib.ListN.{length, drop}

@@ -1,11 +1,11 @@
 -- `dshot_reply::read_word` meets its contract.
 -- Assumes nothing.
-use mathlib.Core.Path.{_≡_, sym, ap, _∙_}
+use mathlib.Core.Path.{sym, ap, _∙_}
 use Prim.Native.Nat.{ℕ}
 use borrow.Author.Needs.{needs}
 use Rattle.dshot_reply.proofs.read_word.Statement.{statement}
 use Rattle.dshot_reply.proofs.read_word.Tie as tie
-use Rattle.dshot_reply_spec.specs.Answer.{Answer, given, then}
+use Rattle.dshot_reply_spec.specs.Answer.{Answer, then}
 use Rattle.dshot_reply_spec.specs.Reading.{wordReply}
 use Rattle.dshot_reply_spec.specs.Value.{replyOf}
 use Rattle.dshot_reply.specs.Answers.{decodedAnswer}

@@ -3,14 +3,13 @@
 use mathlib.Core.Path.{_≡_, refl, sym, _∙_, ap}
 use mathlib.Core.Bool.{Bool}
 use mathlib.Core.List.{List}
-use Prim.Native.Nat.{ℕ, _+_, _-_, _≤_, _<_, min}
+use Prim.Native.Nat.{ℕ, _+_, _-_, min}
 use native.Mathlib.Omega.{arith}
 use lib.ListN.{length, take, drop}
 use lib.Seq.{length-take-le}
 use borrow.Author.Needs.{needs}
 use Rattle.dshot_reply.proofs.reply_transitions.Statement.{statement}
 use Rattle.dshot_reply.proofs.reply_transitions.Tie as tie
-use Rattle.dshot_reply_spec.proofs.Decode.{taken}
 use Rattle.dshot_reply_spec.specs.Runs.{assemble, firstLow, levels, runsOf}
 use Rattle.dshot_reply.proofs.Levels.{a-start, levels-most, no-start, start-found, start-most, start-none}
 

@@ -1,6 +1,6 @@
 -- `dshot_reply::run_end` meets its contract: all samples from `from` to `i` are at the level.
 -- Assumes nothing.
-use mathlib.Core.Path.{_≡_, sym, _∙_}
+use mathlib.Core.Path.{_≡_}
 use Prim.Native.Nat.{_+_, _-_, _≤_}
 use native.Mathlib.Omega.{arith}
 use lib.ListN.{length, drop}
@@ -8,9 +8,7 @@ use borrow.Author.Needs.{needs}
 use borrow.Author.Tests.{not-true, not-false}
 use Rattle.dshot_reply.proofs.run_end.Statement.{statement}
 use Rattle.dshot_reply.proofs.run_end.Tie as tie
-use Rattle.dshot_reply_spec.proofs.Decode.{taken}
 use Rattle.dshot_reply_spec.specs.Runs.{levels}
-use Rattle.dshot_reply_spec.specs.Simulate.{left}
 use Rattle.dshot_reply.proofs.Levels.{same-end, same-ends, same-more}
 use Rattle.dshot_reply.specs.Steps.{sameFor}
 

@@ -1,15 +1,14 @@
 -- `dshot_reply::skip_high` meets its contract.
 -- Assumes nothing.
-use mathlib.Core.Path.{_≡_, sym, ap, _∙_}
-use Prim.Native.Nat.{ℕ, _+_, _-_, _≤_, _<_}
+use mathlib.Core.Path.{_≡_}
+use Prim.Native.Nat.{_+_, _-_, _≤_}
 use native.Mathlib.Omega.{arith}
 use lib.ListN.{length, drop}
-use borrow.Author.Tests.{not-true, not-false}
+use borrow.Author.Tests.{not-false}
 use borrow.Author.Needs.{needs}
 use Rattle.dshot_reply.proofs.skip_high.Statement.{statement}
 use Rattle.dshot_reply.proofs.skip_high.Tie as tie
 use Rattle.dshot_reply_spec.specs.Runs.{firstLow, levels}
-use Rattle.dshot_reply_spec.specs.Simulate.{left}
 
 abbrev Inv-loop : tie.InvT-loop
 Inv-loop samples pin-mask i₀ i = (i ≤ length samples) × (firstLow (levels pin-mask samples) ≡ firstLow (levels pin-mask (drop i samples)) + i)

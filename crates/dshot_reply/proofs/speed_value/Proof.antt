@@ -5,8 +5,6 @@ use borrow.Author.Tests.{eq-eqb, ne-eqb}
 use borrow.Author.Needs.{needs}
 use Rattle.dshot_reply.proofs.speed_value.Statement.{statement}
 use Rattle.dshot_reply.proofs.speed_value.Tie as tie
-use Rattle.dshot_reply_spec.proofs.Decode.{taken}
-use Rattle.dshot_reply_spec.specs.Simulate.{left}
 use Rattle.dshot_reply_spec.specs.Value.{speedValue}
 use Rattle.dshot_reply.proofs.WordLaws.{period-lt, period-shl}
 

@@ -1,9 +1,6 @@
 -- `dshot_reply::symbol_nibble` meets its contract.
 -- Assumes nothing.
-use mathlib.Core.Path.{_≡_, ap, _∙_}
-use mathlib.Core.List.{List}
-use Prim.Native.Nat.{ℕ}
-use lib.ListN.{getD}
+use mathlib.Core.Path.{_∙_}
 use borrow.Author.Needs.{needs}
 use Rattle.dshot_reply.proofs.symbol_nibble.Statement.{statement}
 use Rattle.dshot_reply.proofs.symbol_nibble.Tie as tie

@@ -4,8 +4,6 @@ use borrow.Author.Tests.{eq-eqb, ne-eqb}
 use borrow.Author.Needs.{needs}
 use Rattle.dshot_reply.proofs.DshotReply.from_value.Statement.{statement}
 use Rattle.dshot_reply.proofs.DshotReply.from_value.Tie as tie
-use Rattle.dshot_reply_spec.proofs.Decode.{taken}
-use Rattle.dshot_reply_spec.specs.Simulate.{left}
 use Rattle.dshot_reply_spec.specs.Value.{replyOf}
 
 returns : tie.Need-returns

@@ -3,11 +3,8 @@
 use Prim.Native.Nat.{_+_}
 use native.Mathlib.Omega.{arith}
 use borrow.Author.Tests.{lt-ltb, le-ltb, eq-eqb, ne-eqb}
-use borrow.Author.Needs.{needs}
 use Rattle.dshot_reply.proofs.simulate.answer_for.Statement.{statement}
 use Rattle.dshot_reply.proofs.simulate.answer_for.Tie as tie
-use Rattle.dshot_reply_spec.proofs.Decode.{taken}
-use Rattle.dshot_reply_spec.specs.Simulate.{left}
 use Rattle.dshot_reply.specs.Steps.{simulatedRefusal}
 
 returns : tie.Need-returns

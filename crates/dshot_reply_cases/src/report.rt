@@ -1,0 +1,75 @@
+// Counts the answers and prints what was found.
+
+use crate::records::Verdict;
+use libc::STDOUT_FILENO;
+
+// One more, up to the largest number, which no list comes near.
+pub fn one_more(n: u64) -> u64 {
+    if n < u64::MAX { n + 1 } else { n }
+}
+
+// Counts an answer of a kind. The first count is of all kinds.
+fn count(counts: &mut [u64; 8], kind: u64) {
+    counts[0] = one_more(counts[0]);
+    if kind < 8 {
+        let k = kind as usize;
+        counts[k] = one_more(counts[k]);
+    }
+}
+
+fn print_line(words: &[u8], line: u64) {
+    io::write_all(STDOUT_FILENO, words);
+    io::print_decimal(STDOUT_FILENO, line);
+    io::write_all(STDOUT_FILENO, b"\n");
+}
+
+// Counts and reports what came of a line; false where the run ends there.
+pub fn enter(
+    verdict: Verdict,
+    kind: u64,
+    line: u64,
+    compared: &mut [u64; 8],
+    differing: &mut [u64; 8],
+) -> bool {
+    match verdict {
+        Verdict::Nothing => true,
+        Verdict::Same => {
+            count(compared, kind);
+            true
+        }
+        Verdict::Differs => {
+            count(compared, kind);
+            count(differing, kind);
+            print_line(b"differs: line ", line);
+            true
+        }
+        Verdict::Unreadable => {
+            print_line(b"unreadable: line ", line);
+            false
+        }
+    }
+}
+
+fn print_counts(name: &[u8], compared: u64, differing: u64) {
+    io::write_all(STDOUT_FILENO, name);
+    io::print_decimal(STDOUT_FILENO, compared);
+    io::write_all(STDOUT_FILENO, b" answers, ");
+    io::print_decimal(STDOUT_FILENO, differing);
+    io::write_all(STDOUT_FILENO, b" differ\n");
+}
+
+// Prints how many answers were compared and how many differ, of each kind of call and of all.
+pub fn counts(compared: &[u64; 8], differing: &[u64; 8]) {
+    print_counts(b"reply_transitions_for: ", compared[1], differing[1]);
+    print_counts(b"decode_gcr: ", compared[2], differing[2]);
+    print_counts(b"DshotReply::from_value: ", compared[3], differing[3]);
+    print_counts(b"reply_transitions: ", compared[4], differing[4]);
+    print_counts(b"decode_sampled_reply: ", compared[5], differing[5]);
+    print_counts(b"simulate::period_value: ", compared[6], differing[6]);
+    print_counts(b"simulate::simulate_reply: ", compared[7], differing[7]);
+    print_counts(b"", compared[0], differing[0]);
+}
+
+pub fn too_long() {
+    io::write_all(STDOUT_FILENO, b"list too long\n");
+}
