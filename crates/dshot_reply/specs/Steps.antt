@@ -10,12 +10,12 @@ use Rattle.dshot_reply_spec.specs.Answer.{Answer, given, refused, pick, noReply
 use Rattle.dshot_reply_spec.specs.Gcr.{symbolOf, nibbleOf}
 
 -- a table has the symbol of each nibble
-abbrev pub Encodes : List ℕ → Type 0
-Encodes table = (n : ℕ) → n < 16 → (getD table n 0 ≡ symbolOf n) × (getD table n 0 < 32)
+pub record Encodes (table : List ℕ) : Type 0 where
+  pub entry : (n : ℕ) → n < 16 → (getD table n 0 ≡ symbolOf n) × (getD table n 0 < 32)
 
 -- a table has the nibble of each symbol, and 255 for each of the other five bits
-abbrev pub Decodes : List ℕ → Type 0
-Decodes table = (s : ℕ) → s < 32 → getD table s 0 ≡ nibbleOf s
+pub record Decodes (table : List ℕ) : Type 0 where
+  pub entry : (s : ℕ) → s < 32 → getD table s 0 ≡ nibbleOf s
 
 -- how many levels are l before one is not
 abbrev pub sameFor : Bool → List Bool → ℕ

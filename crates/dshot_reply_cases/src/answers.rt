@@ -16,7 +16,7 @@ pub struct Answer {
 }
 
 impl Answer {
-    pub fn is(self, refusal: u64, kind: u64, number: u64) -> bool {
+    pub(crate) fn is(self, refusal: u64, kind: u64, number: u64) -> bool {
         if self.refusal != refusal {
             return false;
         }
@@ -35,7 +35,7 @@ fn wide16(x: u16) -> u64 {
     x as u64
 }
 
-pub fn wide32(x: u32) -> u64 {
+pub(crate) fn wide32(x: u32) -> u64 {
     x as u64
 }
 
@@ -59,14 +59,14 @@ fn refused_by(error: DshotReplyError) -> Answer {
     refused(wide32(dshot_reply::error_number(error)))
 }
 
-pub fn of_transitions(answer: Transitions) -> Answer {
+pub(crate) fn of_transitions(answer: Transitions) -> Answer {
     match answer {
         Transitions::Word(word) => answered(0, wide32(word)),
         Transitions::Refused(error) => refused_by(error),
     }
 }
 
-pub fn of_decoded(answer: Decoded) -> Answer {
+pub(crate) fn of_decoded(answer: Decoded) -> Answer {
     match answer {
         Decoded::Value(value) => answered(0, wide16(value)),
         Decoded::Refused(error) => refused_by(error),
@@ -95,21 +95,21 @@ fn of_reply(reply: DshotReply) -> Answer {
     }
 }
 
-pub fn of_read(answer: ReplyRead) -> Answer {
+pub(crate) fn of_read(answer: ReplyRead) -> Answer {
     match answer {
         ReplyRead::Reply(reply) => of_reply(reply),
         ReplyRead::Refused(error) => refused_by(error),
     }
 }
 
-pub fn of_period(answer: PeriodValue) -> Answer {
+pub(crate) fn of_period(answer: PeriodValue) -> Answer {
     match answer {
         PeriodValue::Value(value) => answered(0, wide16(value)),
         PeriodValue::OutOfRange => refused(16),
     }
 }
 
-pub fn of_simulated(answer: Simulated) -> u64 {
+pub(crate) fn of_simulated(answer: Simulated) -> u64 {
     match answer {
         Simulated::Written => 0,
         Simulated::NoMask => 12,

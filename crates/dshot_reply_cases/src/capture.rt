@@ -22,7 +22,7 @@ fn broken() -> Capture
 }
 
 // A buffer that holds one sample in every slot.
-pub fn buffer(sample: u16) -> [u16; MOST_SAMPLES]
+pub(crate) fn buffer(sample: u16) -> [u16; MOST_SAMPLES]
     ensures { λ r. ⌜ 512 ≡ length r ⌝ }
 {
     [sample; MOST_SAMPLES]
@@ -58,7 +58,7 @@ fn add_run(out: &mut [u16], n: usize, sample: u64, times: u64) -> Capture
 }
 
 // Writes out runs, each a sample and how many times it comes. `stated` is how many runs there must be.
-pub fn unroll(runs: &[u64], stated: u64, out: &mut [u16]) -> Capture
+pub(crate) fn unroll(runs: &[u64], stated: u64, out: &mut [u16]) -> Capture
     ensures { λ r. ⌜ r .samples ≤ length (now (out .exit)) ⌝ }
 {
     if (runs.len() / 2) as u64 != stated {
@@ -84,7 +84,7 @@ pub fn unroll(runs: &[u64], stated: u64, out: &mut [u16]) -> Capture
 }
 
 // Whether two captures are equal.
-pub fn same(a: &[u16], b: &[u16]) -> bool {
+pub(crate) fn same(a: &[u16], b: &[u16]) -> bool {
     if a.len() != b.len() {
         return false;
     }

@@ -14,7 +14,7 @@ const MOST_TENS: u64 = u64::MAX / 10;
 const NO_DIGIT: u64 = 10;
 
 // The place of the first byte from `from` on that is `byte`, or the length where there is none.
-pub fn find(text: &[u8], from: usize, byte: u8) -> usize
+pub(crate) fn find(text: &[u8], from: usize, byte: u8) -> usize
     requires { ⌜ from ≤ length (now text) ⌝ }
     ensures { λ r. ⌜ (from ≤ r) × (r ≤ length (now (text .entry))) ⌝ }
 {
@@ -122,7 +122,7 @@ fn broken() -> Line
 }
 
 // Room for the numbers of a record.
-pub fn buffer() -> [u64; MOST_NUMBERS]
+pub(crate) fn buffer() -> [u64; MOST_NUMBERS]
     ensures { λ r. ⌜ 1031 ≡ length r ⌝ }
 {
     [0; MOST_NUMBERS]
@@ -156,7 +156,7 @@ fn read_numbers(line: &[u8], out: &mut [u64]) -> Line
 }
 
 // Reads the numbers before the comment.
-pub fn read_line(line: &[u8], out: &mut [u64]) -> Line
+pub(crate) fn read_line(line: &[u8], out: &mut [u64]) -> Line
     ensures { λ r. ⌜ r .numbers ≤ length (now (out .exit)) ⌝ }
 {
     let end = find(line, 0, b'#');

@@ -182,7 +182,7 @@ fn simulated(numbers: &[u64]) -> Verdict {
     )
 }
 
-pub fn replay(numbers: &[u64]) -> Verdict {
+pub(crate) fn replay(numbers: &[u64]) -> Verdict {
     if numbers.len() == 0 {
         return Verdict::Nothing;
     }

@@ -4,7 +4,7 @@ use crate::records::Verdict;
 use libc::STDOUT_FILENO;
 
 // One more, up to the largest number, which no list comes near.
-pub fn one_more(n: u64) -> u64 {
+pub(crate) fn one_more(n: u64) -> u64 {
     if n < u64::MAX { n + 1 } else { n }
 }
 
@@ -24,7 +24,7 @@ fn print_line(words: &[u8], line: u64) {
 }
 
 // Counts and reports what came of a line; false where the run ends there.
-pub fn enter(
+pub(crate) fn enter(
     verdict: Verdict,
     kind: u64,
     line: u64,
@@ -59,7 +59,7 @@ fn print_counts(name: &[u8], compared: u64, differing: u64) {
 }
 
 // Prints how many answers were compared and how many differ, of each kind of call and of all.
-pub fn counts(compared: &[u64; 8], differing: &[u64; 8]) {
+pub(crate) fn counts(compared: &[u64; 8], differing: &[u64; 8]) {
     print_counts(b"reply_transitions_for: ", compared[1], differing[1]);
     print_counts(b"decode_gcr: ", compared[2], differing[2]);
     print_counts(b"DshotReply::from_value: ", compared[3], differing[3]);
@@ -70,6 +70,6 @@ pub fn counts(compared: &[u64; 8], differing: &[u64; 8]) {
     print_counts(b"", compared[0], differing[0]);
 }
 
-pub fn too_long() {
+pub(crate) fn too_long() {
     io::write_all(STDOUT_FILENO, b"list too long\n");
 }

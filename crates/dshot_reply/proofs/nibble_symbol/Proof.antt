@@ -11,7 +11,7 @@ element-copy-out-result : tie.Need-element-copy-out-result
 element-copy-out-result c = search needs
 
 returns : tie.Need-returns
-returns c = c .before .pre .0 (c .before .args .nibble) (c .before .pre .1)
+returns c = c .before .pre .0 .entry (c .before .args .nibble) (c .before .pre .1)
 
 pub nibble-symbol-spec : {M : Type 1} → statement M
 nibble-symbol-spec = tie.close (tie.spec mul-result element-copy-out-result returns)

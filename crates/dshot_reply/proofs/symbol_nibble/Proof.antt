@@ -15,7 +15,7 @@ returns : tie.Need-returns
 returns c =
     let a = c .before .before .args in
     let p = c .before .before .pre in
-    (c .wide .ensures .0 ∙ p .0 (a .symbol) (p .1), search needs)
+    (c .wide .ensures .0 ∙ p .0 .entry (a .symbol) (p .1), search needs)
 
 pub symbol-nibble-spec : {M : Type 1} → statement M
 symbol-nibble-spec = tie.close (tie.spec element-copy-out-wide wide-requires returns)
