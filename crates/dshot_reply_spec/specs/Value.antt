@@ -1,5 +1,6 @@
--- The meaning of a checked 12-bit value (document 01; `DshotReply::from_value` of dshot_reply.rs): a speed, a reading, or the
+-- The meaning of a checked 12-bit value: a speed, a reading, or the
 -- acknowledgement of extended telemetry (EDT).
+-- Stands for `DshotReply::from_value` of crates/ferrowasp-output/src/dshot_reply.rs (Eirik2020/ferro-wasp, commit 9cb8aca1a6, Apache-2.0), rewritten as a definition.
 -- Assumes nothing.
 use Prim.Native.Nat.{ℕ, _+_, _-_, _*_, _/_, _%_, _^_}
 use mathlib.Core.Bool.{Bool, not, _&&_, _||_}

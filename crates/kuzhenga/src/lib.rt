@@ -1,4 +1,4 @@
-// The library for C: one archive of exported functions on numbers and slices. include/kuzhenga.h declares and documents them.
+// The library for C: one archive of exported functions on numbers and slices.
 //
 // Each checks the lengths of the slices that it is lent and returns the number of its refusal in document 01, or 0 when it is done; a refused
 // call leaves every slot as it was. Numbers are wide, so that nothing is cut off before it is looked at, and a flag of 0 is no, any other yes.

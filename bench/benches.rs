@@ -1,0 +1,85 @@
+//! The benches: for either side, a pass over the same inputs.
+
+use crate::calls::{library_decode, library_reading, original_decode, original_reading};
+use crate::inputs::{self, MASK};
+use std::hint::black_box;
+use std::rc::Rc;
+
+pub struct Bench {
+    pub name: &'static str,
+    /// Calls in a pass.
+    pub calls: usize,
+    /// A pass of the original, and one of the library.
+    pub sides: [Box<dyn Fn()>; 2],
+}
+
+/// A pass gives every input and takes every answer through `black_box`, so that no call can be
+/// left out or worked out beforehand. The slots are those that the library writes into.
+fn pass<T: 'static, A, const N: usize>(
+    inputs: &Rc<[T]>,
+    call: impl Fn(&T, &mut [u16; N]) -> A + 'static,
+) -> Box<dyn Fn()> {
+    let inputs = inputs.clone();
+    Box::new(move || {
+        let mut slots = [0; N];
+        for input in inputs.iter() {
+            black_box(call(black_box(input), black_box(&mut slots)));
+        }
+    })
+}
+
+type Window = Vec<u16>;
+
+fn readings(name: &'static str, windows: Vec<Window>) -> Bench {
+    let windows: Rc<[Window]> = Rc::from(windows);
+    let original = |window: &Window, _: &mut [u16; 3]| {
+        original_reading(window, black_box(MASK), black_box(false))
+    };
+    let library = |window: &Window, slots: &mut [u16; 3]| {
+        library_reading(window, black_box(MASK), black_box(false), slots)
+    };
+    Bench {
+        name,
+        calls: windows.len(),
+        sides: [pass(&windows, original), pass(&windows, library)],
+    }
+}
+
+/// The whole list of words is one input, and its loop is the side's own.
+fn decodings(name: &'static str, words: Vec<u32>) -> Bench {
+    let calls = words.len();
+    let lists: Rc<[Vec<u32>]> = Rc::from([words]);
+    let original = |words: &Vec<u32>, _: &mut [u16; 0]| original_decode(words);
+    let library = |words: &Vec<u32>, _: &mut [u16; 0]| library_decode(words);
+    Bench {
+        name,
+        calls,
+        sides: [pass(&lists, original), pass(&lists, library)],
+    }
+}
+
+pub fn all() -> [Bench; 5] {
+    [
+        readings("exact reply, lead 10", inputs::exact_replies()),
+        readings("jittered reply, lead 85", inputs::late_replies()),
+        readings("window without a reply", inputs::silent_windows()),
+        decodings("decode_gcr, reply words", inputs::words()),
+        decodings("decode_gcr, half damaged", inputs::damaged_words()),
+    ]
+}
+
+/// A side that answers wrong is no side to measure.
+pub fn agree() -> bool {
+    let refusal = |window: &Window| library_reading(window, MASK, false, &mut [0; 3]);
+    let taken = |window: &Window| {
+        let original = original_reading(window, MASK, false);
+        original.is_ok() == (refusal(window) == 0)
+    };
+    let silent = |window: &Window| refusal(window) == 7;
+    inputs::exact_replies().iter().all(taken)
+        && inputs::late_replies().iter().all(taken)
+        && inputs::silent_windows().iter().all(silent)
+        && [inputs::words(), inputs::damaged_words()]
+            .iter()
+            .all(|words| original_decode(words) == library_decode(words))
+}

@@ -1,0 +1,44 @@
+//! The calls that are measured, each side through one function that is not inlined. The library
+//! writes into slots that its host keeps and lends again and again; the source returns its answer.
+
+use crate::exports::kuzhenga_decode_sampled_reply;
+use dshot_reply::{DshotReply, DshotReplyError};
+
+#[inline(never)]
+pub fn original_reading(
+    samples: &[u16],
+    mask: u16,
+    edt: bool,
+) -> Result<DshotReply, DshotReplyError> {
+    dshot_reply::decode_sampled_reply(samples, mask, edt)
+}
+
+/// The refusal's number.
+#[inline(never)]
+pub fn library_reading(samples: &[u16], mask: u16, edt: bool, reading: &mut [u16; 3]) -> u32 {
+    let (from, n) = (samples.as_ptr(), samples.len());
+    let to = reading.as_mut_ptr();
+    unsafe { kuzhenga_decode_sampled_reply(from, n, mask.into(), edt.into(), to, 3) }
+}
+
+extern "C" {
+    fn bench_decode_gcr(words: *const u32, n: usize) -> u32;
+}
+
+/// The sum of what the words decode to: a value as it is, a refusal's number above sixteen bits. A
+/// call of few nanoseconds is repeated in a loop of each side's own, so that the way from this
+/// program to the library is not what is measured.
+#[inline(never)]
+pub fn original_decode(words: &[u32]) -> u32 {
+    let packed = |&word: &u32| match dshot_reply::decode_gcr(word) {
+        Ok(value) => value.into(),
+        Err(DshotReplyError::InvalidSymbol) => 9 << 16,
+        Err(_) => 10 << 16,
+    };
+    words.iter().map(packed).fold(0, u32::wrapping_add)
+}
+
+#[inline(never)]
+pub fn library_decode(words: &[u32]) -> u32 {
+    unsafe { bench_decode_gcr(words.as_ptr(), words.len()) }
+}

@@ -1,0 +1,79 @@
+//! Measures the library, through its archive, and the source it is ported from. Prints a row a
+//! bench: nanoseconds and instructions of a call for both, and the library's over the original's.
+
+mod benches;
+mod calls;
+mod inputs;
+mod instructions;
+mod time;
+
+// Shared with the comparison; a bench uses a part of each.
+#[allow(dead_code)]
+#[path = "../tools/compare/captures.rs"]
+mod captures;
+#[allow(dead_code)]
+#[path = "../tools/compare/exports.rs"]
+mod exports;
+#[allow(dead_code)]
+#[path = "../tools/compare/random.rs"]
+mod random;
+#[allow(dead_code)]
+#[path = "../tools/compare/rendering.rs"]
+mod rendering;
+
+use std::process::ExitCode;
+
+const HEAD: [&str; 2] = [
+    "                                 original   library          original   library",
+    "a call of                              ns        ns  ratio     instr.    instr.  ratio",
+];
+
+/// Without numbers it prints the table. It gets numbers where it runs itself: a bench to time, or a
+/// bench, a side and how many passes to make.
+fn main() -> ExitCode {
+    let words = std::env::args().skip(1);
+    let numbers: Vec<usize> = words.flat_map(|word| word.parse()).collect();
+    match numbers[..] {
+        [bench] => {
+            let [original, library] = time::here(&benches::all()[bench]);
+            println!("{original} {library}");
+        }
+        [bench, side, passes] => {
+            let benches = benches::all();
+            (0..passes).for_each(|_| benches[bench].sides[side]());
+        }
+        _ => return table(),
+    }
+    ExitCode::SUCCESS
+}
+
+fn table() -> ExitCode {
+    if !benches::agree() {
+        eprintln!("the library and the original do not agree");
+        return ExitCode::FAILURE;
+    }
+    println!("{}", HEAD.join("\n"));
+    for (number, bench) in benches::all().iter().enumerate() {
+        let ns = time::nanoseconds(number);
+        let instructions = instructions::each_call(bench, number);
+        let (Some(ns), Some(instructions)) = (ns, instructions) else {
+            eprintln!("{} could not be measured; is valgrind here?", bench.name);
+            return ExitCode::FAILURE;
+        };
+        row(bench.name, ns, instructions);
+    }
+    ExitCode::SUCCESS
+}
+
+fn row(name: &str, ns: [f64; 2], instructions: [f64; 2]) {
+    let ratio = |[original, library]: [f64; 2]| library / original;
+    println!(
+        "{name:31}{:10.1}{:10.1}{:7.2}{:11.1}{:10.1}{:7.2}",
+        ns[0],
+        ns[1],
+        ratio(ns),
+        instructions[0],
+        instructions[1],
+        ratio(instructions),
+    );
+}

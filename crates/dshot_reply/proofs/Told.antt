@@ -1,0 +1,119 @@
+-- The numbers and values of document 01 tell the answer of each enum: from what a promise fixes, the answer itself is got back.
+-- Assumes nothing.
+use mathlib.Core.Path.{_≡_, refl, sym, ap, _∙_}
+use Prim.Native.Nat.{ℕ}
+use lib.Dec.{eqb}
+use Rattle.dshot_reply_spec.specs.Answer.{Answer, given, refused, pick}
+use Rattle.dshot_reply_spec.specs.Value.{Reading, erpm, temp, volt, amp, debug, state, edt}
+use Rattle.dshot_reply.specs.Answers.{errorNumber, transitionsAnswer, decodedAnswer, reading, replyAnswer, periodAnswer, simulatedNumber}
+use Rattle.dshot_reply.specs.declared.DshotReplyError.{DshotReplyError}
+use Rattle.dshot_reply.specs.declared.DshotReplyError.the-variants.{NoReply, Overlong, InvalidSymbol, Checksum, ZeroPeriod}
+use Rattle.dshot_reply.specs.declared.Transitions.{Transitions}
+use Rattle.dshot_reply.specs.declared.Transitions.the-variants as Bits
+use Rattle.dshot_reply.specs.declared.Decoded.{Decoded}
+use Rattle.dshot_reply.specs.declared.Decoded.the-variants as Code
+use Rattle.dshot_reply.specs.declared.DshotReply.{DshotReply}
+use Rattle.dshot_reply.specs.declared.DshotReply.the-variants.{Erpm, Temperature, Voltage, Current, Debug, StateEvent, ExtendedTelemetryEnabled}
+use Rattle.dshot_reply.specs.declared.ReplyRead.{ReplyRead}
+use Rattle.dshot_reply.specs.declared.ReplyRead.the-variants as Read
+use Rattle.dshot_reply.specs.declared.simulate.PeriodValue.{PeriodValue}
+use Rattle.dshot_reply.specs.declared.simulate.PeriodValue.the-variants as Period
+use Rattle.dshot_reply.specs.declared.simulate.Simulated.{Simulated}
+use Rattle.dshot_reply.specs.declared.simulate.Simulated.the-variants.{Written, NoMask, WrongLength}
+
+-- what undoes a function tells its argument
+tells : {A B : Type 0} (f : A → B) (back : B → A) → ((a : A) → back (f a) ≡ a) → (a b : A) → f a ≡ f b → a ≡ b
+tells f back undone a b e = sym (undone a) ∙ ap back e ∙ undone b
+
+errorOf : ℕ → DshotReplyError
+errorOf n = pick (eqb n 7) NoReply (pick (eqb n 8) Overlong (pick (eqb n 9) InvalidSymbol (pick (eqb n 10) Checksum ZeroPeriod)))
+
+error-back : (e : DshotReplyError) → errorOf (errorNumber e) ≡ e
+unfolding errorOf
+error-back NoReply = refl
+error-back Overlong = refl
+error-back InvalidSymbol = refl
+error-back Checksum = refl
+error-back ZeroPeriod = refl
+
+pub error-told : (e f : DshotReplyError) → errorNumber e ≡ errorNumber f → e ≡ f
+error-told = tells errorNumber errorOf error-back
+
+transitionsOfAnswer : Answer ℕ → Transitions
+transitionsOfAnswer (given w) = Bits.Word w
+transitionsOfAnswer (refused n) = Bits.Refused (errorOf n)
+
+transitions-back : (t : Transitions) → transitionsOfAnswer (transitionsAnswer t) ≡ t
+unfolding transitionsOfAnswer
+transitions-back (Bits.Word w) = refl
+transitions-back (Bits.Refused e) = ap (λ (x : DshotReplyError). Bits.Refused x) (error-back e)
+
+pub transitions-told : (t u : Transitions) → transitionsAnswer t ≡ transitionsAnswer u → t ≡ u
+transitions-told = tells transitionsAnswer transitionsOfAnswer transitions-back
+
+decodedOfAnswer : Answer ℕ → Decoded
+decodedOfAnswer (given v) = Code.Value v
+decodedOfAnswer (refused n) = Code.Refused (errorOf n)
+
+decoded-back : (d : Decoded) → decodedOfAnswer (decodedAnswer d) ≡ d
+unfolding decodedOfAnswer
+decoded-back (Code.Value v) = refl
+decoded-back (Code.Refused e) = ap (λ (x : DshotReplyError). Code.Refused x) (error-back e)
+
+pub decoded-told : (d e : Decoded) → decodedAnswer d ≡ decodedAnswer e → d ≡ e
+decoded-told = tells decodedAnswer decodedOfAnswer decoded-back
+
+replyOfReading : Reading → DshotReply
+replyOfReading (erpm n) = Erpm n
+replyOfReading (temp n) = Temperature n
+replyOfReading (volt n) = Voltage n
+replyOfReading (amp n) = Current n
+replyOfReading (debug channel n) = Debug channel n
+replyOfReading (state n) = StateEvent n
+replyOfReading edt = ExtendedTelemetryEnabled
+
+reading-back : (r : DshotReply) → replyOfReading (reading r) ≡ r
+unfolding replyOfReading
+reading-back (Erpm n) = refl
+reading-back (Temperature n) = refl
+reading-back (Voltage n) = refl
+reading-back (Current n) = refl
+reading-back (Debug channel n) = refl
+reading-back (StateEvent n) = refl
+reading-back ExtendedTelemetryEnabled = refl
+
+readOfAnswer : Answer Reading → ReplyRead
+readOfAnswer (given r) = Read.Reply (replyOfReading r)
+readOfAnswer (refused n) = Read.Refused (errorOf n)
+
+read-back : (r : ReplyRead) → readOfAnswer (replyAnswer r) ≡ r
+unfolding readOfAnswer
+read-back (Read.Reply r) = ap (λ (x : DshotReply). Read.Reply x) (reading-back r)
+read-back (Read.Refused e) = ap (λ (x : DshotReplyError). Read.Refused x) (error-back e)
+
+pub reply-told : (r s : ReplyRead) → replyAnswer r ≡ replyAnswer s → r ≡ s
+reply-told = tells replyAnswer readOfAnswer read-back
+
+periodOfAnswer : Answer ℕ → PeriodValue
+periodOfAnswer (given v) = Period.Value v
+periodOfAnswer (refused n) = Period.OutOfRange
+
+period-back : (p : PeriodValue) → periodOfAnswer (periodAnswer p) ≡ p
+unfolding periodOfAnswer
+period-back (Period.Value v) = refl
+period-back Period.OutOfRange = refl
+
+pub period-told : (p q : PeriodValue) → periodAnswer p ≡ periodAnswer q → p ≡ q
+period-told = tells periodAnswer periodOfAnswer period-back
+
+simulatedOf : ℕ → Simulated
+simulatedOf n = pick (eqb n 0) Written (pick (eqb n 12) NoMask WrongLength)
+
+simulated-back : (s : Simulated) → simulatedOf (simulatedNumber s) ≡ s
+unfolding simulatedOf
+simulated-back Written = refl
+simulated-back NoMask = refl
+simulated-back WrongLength = refl
+
+pub simulated-told : (s t : Simulated) → simulatedNumber s ≡ simulatedNumber t → s ≡ t
+simulated-told = tells simulatedNumber simulatedOf simulated-back

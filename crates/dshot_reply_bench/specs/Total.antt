@@ -1,0 +1,16 @@
+-- The sum that the bench asks for, modulo 2 ^ 32.
+-- Assumes nothing.
+use Prim.Native.Nat.{ℕ, _+_, _*_, _%_, _^_}
+use mathlib.Core.List.{List, [], _∷_}
+use Rattle.dshot_reply_spec.specs.Answer.{Answer, given, refused}
+use Rattle.dshot_reply_spec.specs.Gcr.{decodeWord}
+
+-- an answer as one number
+abbrev pub packed : Answer ℕ → ℕ
+packed (given v) = v
+packed (refused n) = 65536 * n
+
+-- what the words decode to, added to s one by one
+abbrev pub totalFrom : ℕ → List ℕ → ℕ
+totalFrom s [] = s
+totalFrom s (w ∷ ws) = totalFrom ((s + packed (decodeWord w)) % 2 ^ 32) ws

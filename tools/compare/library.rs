@@ -1,0 +1,75 @@
+//! The library's calls, through its archive. Each says how many slots it lends, which the callers
+//! set wrong on purpose where they test for refusal 13.
+
+use crate::answer::{Answer, UNTOUCHED};
+use crate::exports::*;
+
+/// The slots that a word, a value and a reading take.
+pub const WORD: usize = 2;
+pub const VALUE: usize = 1;
+pub const READING: usize = 3;
+
+fn lent(slots: usize, call: impl FnOnce(*mut u16) -> u32) -> Answer {
+    let mut answer = Answer::refused(0);
+    assert!(slots <= answer.slots.len());
+    answer.refusal = call(answer.slots.as_mut_ptr());
+    answer
+}
+
+/// An empty capture has no address, as a host in C would have it.
+fn address(samples: &[u16]) -> *const u16 {
+    match samples.len() {
+        0 => std::ptr::null(),
+        _ => samples.as_ptr(),
+    }
+}
+
+pub fn reply_transitions_for(value: u32) -> u32 {
+    unsafe { kuzhenga_reply_transitions_for(value) }
+}
+
+pub fn reply_transitions(samples: &[u16], mask: u32, slots: usize) -> Answer {
+    let (from, n) = (address(samples), samples.len());
+    lent(slots, |word| unsafe {
+        kuzhenga_reply_transitions(from, n, mask, word, slots)
+    })
+}
+
+pub fn decode_gcr(word: u32, slots: usize) -> Answer {
+    lent(slots, |value| unsafe {
+        kuzhenga_decode_gcr(word, value, slots)
+    })
+}
+
+pub fn reply_from_value(value: u32, edt: u32, slots: usize) -> Answer {
+    lent(slots, |reading| unsafe {
+        kuzhenga_reply_from_value(value, edt, reading, slots)
+    })
+}
+
+pub fn decode_sampled_reply(samples: &[u16], mask: u32, edt: u32, slots: usize) -> Answer {
+    let (from, n) = (address(samples), samples.len());
+    lent(slots, |reading| unsafe {
+        kuzhenga_decode_sampled_reply(from, n, mask, edt, reading, slots)
+    })
+}
+
+pub fn period_value(period: u32, slots: usize) -> Answer {
+    lent(slots, |value| unsafe {
+        kuzhenga_period_value(period, value, slots)
+    })
+}
+
+/// The refusal, and a buffer of `length` samples after the call with a few samples behind it.
+pub fn simulate_reply(length: usize, value: u32, lead: usize, mask: u32) -> (u32, Vec<u16>) {
+    let mut buffer = vec![UNTOUCHED; length + BEHIND];
+    let to = match length {
+        0 => std::ptr::null_mut(),
+        _ => buffer.as_mut_ptr(),
+    };
+    let refusal = unsafe { kuzhenga_simulate_reply(to, length, value, lead, mask) };
+    (refusal, buffer)
+}
+
+/// Samples behind a buffer that no call may touch.
+pub const BEHIND: usize = 8;

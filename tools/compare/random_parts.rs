@@ -1,0 +1,37 @@
+//! Part 8: random captures of 0 to 200 samples in three textures, on two threads.
+
+use crate::random::Random;
+use crate::tally::Tally;
+use crate::textures::{faulty, length, mask, strewn, LONGEST};
+use crate::{capture_check, captures};
+
+const THREADS: u64 = 2;
+
+pub fn captures(count: u64) -> Tally {
+    let share = |thread| (count + thread) / THREADS;
+    std::thread::scope(|scope| {
+        let start = |thread| scope.spawn(move || some(share(thread), Random::new(8 + thread)));
+        let threads: Vec<_> = (0..THREADS).map(start).collect();
+        let found = threads
+            .into_iter()
+            .map(|thread| thread.join().expect("a thread ends"));
+        found.reduce(Tally::join).expect("there are threads")
+    })
+}
+
+fn some(count: u64, mut random: Random) -> Tally {
+    let mut tally = Tally::new("8 random captures");
+    for _ in 0..count {
+        let mask = mask(&mut random);
+        let samples = match random.below(3) {
+            0 => (0..LONGEST).map(|_| random.word() as u16).collect(),
+            1 => captures::noisy(&strewn(&mut random), mask, &mut random),
+            _ => captures::noisy(&faulty(&mut random), mask, &mut random),
+        };
+        // The capture is the first part of what was made: samples behind it must not matter.
+        let samples = &samples[..length(&mut random)];
+        let high = random.word() << 16;
+        capture_check::capture(&mut tally, samples, high | u32::from(mask));
+    }
+    tally
+}
