@@ -9,8 +9,8 @@ use native.Mathlib.Omega.{arith}
 use lib.Bits.{bitXor}
 use lib.Dec.{eqb}
 use borrow.Author.Tests.{eq-eqb}
-use Rattle.dshot_reply_spec.proofs.Damage.{equal-or-not, symbol-small}
-use Rattle.dshot_reply_spec.proofs.Decode.{bad, taken, unequal}
+use Rattle.dshot_reply_spec.proofs.Damage.{equal-or-not}
+use Rattle.dshot_reply_spec.proofs.Decode.{bad, symbol-small, taken, unequal}
 use Rattle.dshot_reply_spec.proofs.GcrLaws.{nibble-small}
 use Rattle.dshot_reply_spec.proofs.Table.{at}
 use Rattle.dshot_reply_spec.proofs.XorLaws.{nibble-xor}

@@ -141,7 +141,7 @@ unfolding transitionsOf fromLevels
 a-start t m s st e h = rw (← e, length-map s (high m), le-leb (19 * t) (length s - st) h)
 
 -- the search among the first k samples, where a start may be
-module _ (m k : ℕ) (s : List ℕ) (st : ℕ) (within : k ≤ length s) (e : st ≡ firstLow (levels m (take k s))) where
+module _ (m k : ℕ) (s : List ℕ) (st : ℕ) (e : st ≡ firstLow (levels m (take k s))) (within : k ≤ length s) where
   low-of-part : st ≡ firstLow (take k (levels m s))
   low-of-part = e ∙ ap firstLow (map-take (high m) k s)
 

@@ -4,4 +4,4 @@ pub mod RunLaws
 pub mod WordLaws
 pub mod DecodeLaws
 pub mod SimLaws
-pub mod Told
+pub mod Injective

@@ -14,9 +14,9 @@ use Rattle.dshot_reply.specs.Steps.{Decodes, Encodes}
 unfoldable pub encode-test : List ℕ → ℕ → Bool
 encode-test table n = eqb (getD table n 0) (symbolOf n)
 
-pub encodes : (table : List ℕ) → T (below (encode-test table) 16) → Encodes table
+pub encode-rule : (table : List ℕ) → T (below (encode-test table) 16) → Encodes table
 unfolding encode-test
-encodes table t = record {
+encode-rule table t = record {
   entry = λ n h. let e = eqb→eq (getD table n 0) (symbolOf n) (at (encode-test table) 16 t n h) in (e, rw e (symbol-lt n h));
 }
 
@@ -24,6 +24,6 @@ encodes table t = record {
 unfoldable pub decode-test : List ℕ → ℕ → Bool
 decode-test table s = eqb (getD table s 0) (nibbleOf s)
 
-pub decodes : (table : List ℕ) → T (below (decode-test table) 32) → Decodes table
+pub decode-rule : (table : List ℕ) → T (below (decode-test table) 32) → Decodes table
 unfolding decode-test
-decodes table t = record { entry = λ s h. eqb→eq (getD table s 0) (nibbleOf s) (at (decode-test table) 32 t s h) }
+decode-rule table t = record { entry = λ s h. eqb→eq (getD table s 0) (nibbleOf s) (at (decode-test table) 32 t s h) }

@@ -178,7 +178,7 @@ fn run_end(samples: &[u16], pin_mask: u16, level: bool, from: usize) -> usize
     i
 }
 
-// The same. Each arm's loop has a fixed level, which makes it faster.
+// The same as `run_end`, with a loop of its own for each level, which is faster.
 fn next_edge(window: &[u16], pin_mask: u16, level: bool, from: usize) -> usize
     requires { ⌜ from ≤ length (now window) ⌝ }
     ensures { λ r. ⌜ r ≡ from + sameFor level (levels «pin_mask» (drop from (now (window .entry)))) ⌝ }
@@ -258,17 +258,24 @@ fn at_most(n: usize, most: usize) -> usize
     if n < most { n } else { most }
 }
 
+// How many samples, from the first on, may be the start: those from which on there are `MIN_REPLY_SAMPLES`.
+fn start_places(samples: usize) -> usize
+    ensures { λ r. ⌜ r ≡ samples - 56 ⌝ }
+{
+    if samples < MIN_REPLY_SAMPLES {
+        return 0;
+    }
+    samples - (MIN_REPLY_SAMPLES - 1)
+}
+
 // Turns pin samples into a reply's 21 transition bits, most significant first. `pin_mask` selects the motor's pin in each sample, so a sample
 // can be a whole GPIO input register.
 pub fn reply_transitions(samples: &[u16], pin_mask: u16) -> Transitions
     ensures { λ r. ⌜ transitionsAnswer r ≡ transitionsOf 3 (now (samples .entry)) «pin_mask» ⌝ }
 {
-    if samples.len() < MIN_REPLY_SAMPLES {
-        return Transitions::Refused(DshotReplyError::NoReply);
-    }
-    let last = samples.len() - (MIN_REPLY_SAMPLES - 1);
-    let start = first_low(&samples[..last], pin_mask);
-    if start == last {
+    let places = start_places(samples.len());
+    let start = first_low(&samples[..places], pin_mask);
+    if start == places {
         return Transitions::Refused(DshotReplyError::NoReply);
     }
     let end = start + at_most(samples.len() - start, MAX_REPLY_SAMPLES);

@@ -15,7 +15,7 @@ use Rattle.dshot_reply_spec.proofs.Table.{at, below, both, both-left, b
 use Rattle.dshot_reply_spec.proofs.XorLaws.{at2}
 use Rattle.dshot_reply_spec.specs.Answer.{pick}
 use Rattle.dshot_reply_spec.specs.Gcr.{nibbleOf, symbolOf}
-use Rattle.dshot_reply_spec.specs.Move.{Turns, bit, turns}
+use Rattle.dshot_reply_spec.specs.Move.{Turns, bit, turnTable}
 
 -- the bits below m are those of the number modulo 2 ^ m
 pub bit-low : (u m i : ℕ) → i < m → bit (u % 2 ^ m) i ≡ bit u i
@@ -62,11 +62,11 @@ across-down = tested 10 5 4 tt
 
 -- whether the nibbles a, b turn into c, d
 pub turning : ℕ → ℕ → ℕ → ℕ → Bool
-turning a b c d = listed (a ∷ b ∷ c ∷ d ∷ []) turns
+turning a b c d = listed (a ∷ b ∷ c ∷ d ∷ []) turnTable
 
 pub turns-of : (a b c d : ℕ) → T (turning a b c d) → Turns a b c d
 unfolding turning
-turns-of a b c d t = listed-in (a ∷ b ∷ c ∷ d ∷ []) turns t
+turns-of a b c d t = listed-in (a ∷ b ∷ c ∷ d ∷ []) turnTable t
 
 pub turning-of : {a b c d : ℕ} → Turns a b c d → T (turning a b c d)
 unfolding turning

@@ -8,11 +8,11 @@ use native.Mathlib.Omega.{arith}
 use lib.Bits.{bitXor}
 use lib.Dec.{eqb}
 use borrow.Author.Tests.{eqb-true, eqb-false}
-use Rattle.dshot_reply_spec.proofs.Decode.{bad, nibble-lt, nibbles-xor, reply-nibble, reply-symbol, unequal, xorOf}
+use Rattle.dshot_reply_spec.proofs.Decode.{bad, nibble-lt, nibbles-xor, reply-nibble, reply-symbol, symbol-small, unequal, xorOf}
 use Rattle.dshot_reply_spec.proofs.GcrLaws.{nibble-small, symbol-back}
 use Rattle.dshot_reply_spec.proofs.XorLaws.{assoc, cancel-left, cancel-right, nibble-xor}
 use Rattle.dshot_reply_spec.specs.Answer.{Answer, invalidSymbol, refused, wrongChecksum}
-use Rattle.dshot_reply_spec.specs.Gcr.{decodeWord, fromNibbles, nibbleOf, replyNibble, replyWord, symbolAt, symbolOf}
+use Rattle.dshot_reply_spec.specs.Gcr.{decodeWord, fromNibbles, nibbleAt, nibbleOf, replyNibble, replyWord, symbolAt, symbolOf}
 use Rattle.dshot_reply_spec.specs.Render.{Damaged}
 
 abbrev pub Undecoded : Answer ℕ → Type 0
@@ -111,26 +111,19 @@ module _ (f g : ℕ → ℕ) (lf : (p : ℕ) → p < 4 → f p < 16) (lg : (p : 
       (ap (λ (n : ℕ). bitXor (bitXor n (g 1)) (g 0)) e)
   pair-keeps (suc (suc (suc p))) l same e = absurd (omega arith)
 
-pub symbol-small : (w p : ℕ) → symbolAt w p < 32
-unfolding symbolAt
-symbol-small w p = omega arith
-
-abbrev pub nibblesOf : ℕ → ℕ → ℕ
-nibblesOf w p = nibbleOf (symbolAt w p)
-
-pub small-nibbles : (w : ℕ) → ((p : ℕ) → p < 4 → nibblesOf w p ≡ 255 → ⊥) → (p : ℕ) → p < 4 → nibblesOf w p < 16
+pub small-nibbles : (w : ℕ) → ((p : ℕ) → p < 4 → nibbleAt w p ≡ 255 → ⊥) → (p : ℕ) → p < 4 → nibbleAt w p < 16
 small-nibbles w n p l = nibble-small (symbolAt w p) (symbol-small w p) (n p l)
 
 -- a place whose symbol is that of a reply word has its nibble
-pub kept : (v w′ p : ℕ) → p < 4 → symbolAt w′ p ≡ symbolAt (replyWord v) p → nibblesOf w′ p ≡ replyNibble v p
+pub kept : (v w′ p : ℕ) → p < 4 → symbolAt w′ p ≡ symbolAt (replyWord v) p → nibbleAt w′ p ≡ replyNibble v p
 kept v w′ p l e = ap nibbleOf e ∙ reply-nibble v p l
 
 -- a reply word in which one symbol is damaged does not decode
 pub damaged : (v w′ p : ℕ) → Damaged (replyWord v) w′ p → Undecoded (decodeWord w′)
 unfolding decodeWord
 damaged v w′ p d =
-    not-taken (nibblesOf w′)
+    not-taken (nibbleAt w′)
     (λ n e.
-    let x = settled (nibblesOf w′) (replyNibble v) (small-nibbles w′ n) (λ q l. nibble-lt v q) p (d .place)
+    let x = settled (nibbleAt w′) (replyNibble v) (small-nibbles w′ n) (λ q l. nibble-lt v q) p (d .place)
     (λ q l i. kept v w′ q l (d .others q i)) (e ∙ sym (nibbles-xor v)) in
     d .changed (sym (symbol-back (symbolAt w′ p) (symbol-small w′ p) (n p (d .place))) ∙ ap symbolOf x ∙ sym (reply-symbol v p (d .place))))

@@ -156,9 +156,9 @@ ends-in-zeros w e =
     bad (nibbleOf (symbolAt w 3)) (nibbleOf (symbolAt w 2)) (nibbleOf (symbolAt w 1)) (nibbleOf (symbolAt w 0))
     (inr (inr (inr (eight-bad (symbolAt w 0) (omega arith) (mod-eight w ∙ e)))))
 
-symbol-at-lt : (w p : ℕ) → symbolAt w p < 32
+pub symbol-small : (w p : ℕ) → symbolAt w p < 32
 unfolding symbolAt
-symbol-at-lt w p = omega arith
+symbol-small w p = omega arith
 
 joined : (w x y z a b c d : ℕ) → w ≡ x * 32 + a → x ≡ y * 32 + b → y ≡ z * 32 + c → z ≡ 32 + d → w ≡ (((32 + d) * 32 + c) * 32 + b) * 32 + a
 joined w x y z a b c d e f g h = omega arith
@@ -202,7 +202,7 @@ module _ (w : ℕ) (start : w / 2 ^ 20 ≡ 1) (n : (p : ℕ) → p < 4 → nibbl
       (omega (arith, div-div-eq-div-mul w 32 32)) (omega (arith, div-div-eq-div-mul w 1024 32)) (omega (arith, div-div-eq-div-mul w 32768 32)))
 
   symbol-of-value : (p : ℕ) → p < 4 → symbolAt w p ≡ symbolOf (replyNibble (wordValue w) p)
-  symbol-of-value p h = sym (ap symbolOf (value-nibble p h) ∙ symbol-back (symbolAt w p) (symbol-at-lt w p) (λ e. omega (arith, n p h)))
+  symbol-of-value p h = sym (ap symbolOf (value-nibble p h) ∙ symbol-back (symbolAt w p) (symbol-small w p) (λ e. omega (arith, n p h)))
 
   pub word-again : w ≡ replyWord (wordValue w)
   unfolding replyWord

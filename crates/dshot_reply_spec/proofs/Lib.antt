@@ -15,4 +15,5 @@ pub mod SimulatedRenders
 pub mod Simulated
 pub mod PeriodLaws
 pub mod Period
+pub mod ZeroPeriod
 pub mod Documents

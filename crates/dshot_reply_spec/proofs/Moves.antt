@@ -13,14 +13,14 @@ use borrow.Author.Tests.{eq-eqb, ne-eqb}
 use lib.Bits.{bitXor}
 use lib.Pow.{pow-pos, pow-add, shr-shr, field, mod-mod-pow, split}
 use Rattle.dshot_reply_spec.proofs.Cross.{Crossed, Room, across-down, across-up, bit-low, crossed-down, crossed-up, good, inside, turn-high, turn-low, turning, turning-of, turns-of}
-use Rattle.dshot_reply_spec.proofs.Damage.{Undecoded, damaged, equal-or-not, kept, nibblesOf, not-taken, pair-keeps, pair-settled, small-nibbles}
+use Rattle.dshot_reply_spec.proofs.Damage.{Undecoded, damaged, equal-or-not, kept, not-taken, pair-keeps, pair-settled, small-nibbles}
 use Rattle.dshot_reply_spec.proofs.Decode.{nibble-lt, nibbles-xor, reply-nibble, reply-symbol, start-edge, value-lt, value-nibble, word-again, xorOf}
 use Rattle.dshot_reply_spec.proofs.Rendered.{lt-or-ge}
 use Rattle.dshot_reply_spec.proofs.Shift.{above, bit-above, symbol-above, symbol-below, under}
 use Rattle.dshot_reply_spec.proofs.Table.{both, both-right}
 use Rattle.dshot_reply_spec.specs.Answer.{pick}
-use Rattle.dshot_reply_spec.specs.Gcr.{decodeWord, nibbleOf, replyNibble, replyWord, symbolAt, symbolOf}
-use Rattle.dshot_reply_spec.specs.Move.{Formed, Moved, Turned, Turns, bit, turns, wordValue}
+use Rattle.dshot_reply_spec.specs.Gcr.{decodeWord, nibbleAt, nibbleOf, replyNibble, replyWord, symbolAt, symbolOf}
+use Rattle.dshot_reply_spec.specs.Move.{Formed, Moved, Turned, Turns, bit, wordValue}
 use Rattle.dshot_reply_spec.specs.Render.{Damaged}
 
 -- what the word has above its lowest 5q bits, where a bit i and a bit j of that change places below m
@@ -100,8 +100,8 @@ ten-bits w q = sym (split (w / 2 ^ (5 * q) % 2 ^ 10) 5) ∙ rw (high-of w q, low
 
 -- two nibbles turn only where neither symbol is kept
 both-change : (w w′ : ℕ) (t : Turned w w′) → (symbolAt w′ (t .place) ≡ symbolAt w (t .place)) ⊎ (symbolAt w′ (t .place + 1) ≡ symbolAt w (t .place + 1)) → ⊥
-both-change w w′ t (inl e) = turn-low (t .turns) (ap nibbleOf e)
-both-change w w′ t (inr e) = turn-high (t .turns) (ap nibbleOf e)
+both-change w w′ t (inl e) = turn-low (t .row) (ap nibbleOf e)
+both-change w w′ t (inr e) = turn-high (t .row) (ap nibbleOf e)
 
 damage-turns-none : (w w′ q : ℕ) → Damaged w w′ q → Turned w w′ → ⊥
 damage-turns-none w w′ q d t =
@@ -158,33 +158,33 @@ module _ (v w′ q i j : ℕ) (h : q < 3) (l : Local (replyWord v) w′ q 10 i j
   new-low : symbolAt w′ q ≡ (replyWord v / 2 ^ (5 * q) % 2 ^ 10 + 2 ^ j - 2 ^ i) % 32
   new-low = low-of w′ q ∙ ap (λ (n : ℕ). n % 32) (l .mid)
 
-  same : good (nibblesOf w′ (q + 1)) (nibblesOf w′ q) (bitXor (replyNibble v (q + 1)) (replyNibble v q))
-      ≡ turning (replyNibble v (q + 1)) (replyNibble v q) (nibblesOf w′ (q + 1)) (nibblesOf w′ q)
+  same : good (nibbleAt w′ (q + 1)) (nibbleAt w′ q) (bitXor (replyNibble v (q + 1)) (replyNibble v q))
+      ≡ turning (replyNibble v (q + 1)) (replyNibble v q) (nibbleAt w′ (q + 1)) (nibbleAt w′ q)
   same =
       rw (new-high, new-low)
       (crossed (replyNibble v (q + 1)) (replyNibble v q) (replyWord v / 2 ^ (5 * q) % 2 ^ 10) (nibble-lt v (q + 1)) (nibble-lt v q) bits (l .one) (l .none))
 
-  others : (p : ℕ) → p < 4 → (p ≡ q → ⊥) → (p ≡ q + 1 → ⊥) → nibblesOf w′ p ≡ replyNibble v p
+  others : (p : ℕ) → p < 4 → (p ≡ q → ⊥) → (p ≡ q + 1 → ⊥) → nibbleAt w′ p ≡ replyNibble v p
   others p lt n m = kept v w′ p lt (across-keeps (replyWord v) w′ q i j l p n m)
 
-  turns-here : Turned (replyWord v) w′ → T (turning (replyNibble v (q + 1)) (replyNibble v q) (nibblesOf w′ (q + 1)) (nibblesOf w′ q))
+  turns-here : Turned (replyWord v) w′ → T (turning (replyNibble v (q + 1)) (replyNibble v q) (nibbleAt w′ (q + 1)) (nibbleAt w′ q))
   turns-here t =
       let e = across-turns-there (replyWord v) w′ q i j l t in
-      let s : Turns (nibblesOf (replyWord v) (q + 1)) (nibblesOf (replyWord v) q) (nibblesOf w′ (q + 1)) (nibblesOf w′ q) =
-      subst (λ (p : ℕ). Turns (nibblesOf (replyWord v) (p + 1)) (nibblesOf (replyWord v) p) (nibblesOf w′ (p + 1)) (nibblesOf w′ p)) e (t .turns) in
+      let s : Turns (nibbleAt (replyWord v) (q + 1)) (nibbleAt (replyWord v) q) (nibbleAt w′ (q + 1)) (nibbleAt w′ q) =
+      subst (λ (p : ℕ). Turns (nibbleAt (replyWord v) (p + 1)) (nibbleAt (replyWord v) p) (nibbleAt w′ (p + 1)) (nibbleAt w′ p)) e (t .row) in
       turning-of (rw (reply-nibble v (q + 1) (omega arith), reply-nibble v q (omega arith)) at s)
 
-  Turning : Bool
-  Turning = turning (replyNibble v (q + 1)) (replyNibble v q) (nibblesOf w′ (q + 1)) (nibblesOf w′ q)
+  turned-bool : Bool
+  turned-bool = turning (replyNibble v (q + 1)) (replyNibble v q) (nibbleAt w′ (q + 1)) (nibbleAt w′ q)
 
-  Good : Bool
-  Good = good (nibblesOf w′ (q + 1)) (nibblesOf w′ q) (bitXor (replyNibble v (q + 1)) (replyNibble v q))
+  good-bool : Bool
+  good-bool = good (nibbleAt w′ (q + 1)) (nibbleAt w′ q) (bitXor (replyNibble v (q + 1)) (replyNibble v q))
 
-  no-mark : T Good → (p : ℕ) → p < 4 → nibblesOf w′ p ≡ 255 → ⊥
-  unfolding Good
+  no-mark : T good-bool → (p : ℕ) → p < 4 → nibbleAt w′ p ≡ 255 → ⊥
+  unfolding good-bool
   no-mark g p lt e =
-      ⊎-elim (λ here. good-right (nibblesOf w′ (q + 1)) (nibblesOf w′ q) _ g (subst (λ (n : ℕ). nibblesOf w′ n ≡ 255) here e))
-      (λ n. ⊎-elim (λ here. good-left (nibblesOf w′ (q + 1)) (nibblesOf w′ q) _ g (subst (λ (n : ℕ). nibblesOf w′ n ≡ 255) here e))
+      ⊎-elim (λ here. good-right (nibbleAt w′ (q + 1)) (nibbleAt w′ q) _ g (subst (λ (n : ℕ). nibbleAt w′ n ≡ 255) here e))
+      (λ n. ⊎-elim (λ here. good-left (nibbleAt w′ (q + 1)) (nibbleAt w′ q) _ g (subst (λ (n : ℕ). nibbleAt w′ n ≡ 255) here e))
       (λ m. let k = others p lt n m in omega (arith, nibble-lt v p))
       (equal-or-not p (q + 1))) (equal-or-not p q)
 
@@ -200,44 +200,44 @@ module _ (v w′ q i j : ℕ) (h : q < 3) (l : Local (replyWord v) w′ q 10 i j
       ∙ start-edge v
 
   -- where the nibbles turn, the word is that of a value
-  when-turned : T Turning → Turned (replyWord v) w′ × Formed v (wordValue w′) w′
-  unfolding Turning Good
+  when-turned : T turned-bool → Turned (replyWord v) w′ × Formed v (wordValue w′) w′
+  unfolding turned-bool good-bool
   when-turned t =
-      let g : T Good = subst T (sym same) t in
+      let g : T good-bool = subst T (sym same) t in
       let n = no-mark g in
-      let x : xorOf (nibblesOf w′) ≡ 15 =
-      pair-keeps (nibblesOf w′) (replyNibble v) (small-nibbles w′ n) (λ p lt. nibble-lt v p) q h others (good-xor (nibblesOf w′ (q + 1)) (nibblesOf w′ q) _ g) ∙ nibbles-xor v in
+      let x : xorOf (nibbleAt w′) ≡ 15 =
+      pair-keeps (nibbleAt w′) (replyNibble v) (small-nibbles w′ n) (λ p lt. nibble-lt v p) q h others (good-xor (nibbleAt w′ (q + 1)) (nibbleAt w′ q) _ g) ∙ nibbles-xor v in
       let small = small-nibbles w′ n in
-      let turns = turns-of (replyNibble v (q + 1)) (replyNibble v q) (nibblesOf w′ (q + 1)) (nibblesOf w′ q) t in
+      let turns = turns-of (replyNibble v (q + 1)) (replyNibble v q) (nibbleAt w′ (q + 1)) (nibbleAt w′ q) t in
       let nibble = value-nibble w′ start small x in (
-        record { place = q; within = h; turns = rw (reply-nibble v (q + 1) (omega arith), reply-nibble v q (omega arith)) turns },
+        record { place = q; within = h; row = rw (reply-nibble v (q + 1) (omega arith), reply-nibble v q (omega arith)) turns },
         record {
           small = value-lt w′ start small x;
           word = word-again w′ start small x;
           value = record {
             place = q;
             within = h;
-            turns = turned-same turns (nibble (q + 1) (omega arith)) (nibble q (omega arith));
+            row = turned-same turns (nibble (q + 1) (omega arith)) (nibble q (omega arith));
             others = λ p lt m k. nibble p lt ∙ others p lt m k;
           };
         },
       )
 
   -- where they do not, it does not
-  when-not : (T Turning → ⊥) → (Turned (replyWord v) w′ → ⊥) × Undecoded (decodeWord w′)
-  unfolding Turning Good decodeWord
+  when-not : (T turned-bool → ⊥) → (Turned (replyWord v) w′ → ⊥) × Undecoded (decodeWord w′)
+  unfolding turned-bool good-bool decodeWord
   when-not out = (
     λ t. out (turns-here t),
-    not-taken (nibblesOf w′)
+    not-taken (nibbleAt w′)
         (λ n e. out (subst T same
-        (good-of (nibblesOf w′ (q + 1)) (nibblesOf w′ q) (bitXor (replyNibble v (q + 1)) (replyNibble v q)) (n (q + 1) (omega arith)) (n q (omega arith))
-        (pair-settled (nibblesOf w′) (replyNibble v) (small-nibbles w′ n) (λ p lt. nibble-lt v p) q h others (e ∙ sym (nibbles-xor v)))))),
+        (good-of (nibbleAt w′ (q + 1)) (nibbleAt w′ q) (bitXor (replyNibble v (q + 1)) (replyNibble v q)) (n (q + 1) (omega arith)) (n q (omega arith))
+        (pair-settled (nibbleAt w′) (replyNibble v) (small-nibbles w′ n) (λ p lt. nibble-lt v p) q h others (e ∙ sym (nibbles-xor v)))))),
   )
 
   across : TakenIfTurned v w′
-  across = go Turning refl
+  across = go turned-bool refl
     where
-      go : (t : Bool) → Turning ≡ t → TakenIfTurned v w′
+      go : (t : Bool) → turned-bool ≡ t → TakenIfTurned v w′
       go true e = inl (when-turned (subst T (sym e) tt))
       go false e = inr (when-not (λ t. subst T e t))
 

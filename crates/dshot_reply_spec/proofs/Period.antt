@@ -14,6 +14,7 @@ use Rattle.dshot_reply_spec.proofs.PeriodLaws.{scaled-done}
 use Rattle.dshot_reply_spec.proofs.Rendered.{lt-or-ge}
 use Rattle.dshot_reply_spec.specs.Answer.{given, pick, refused}
 use Rattle.dshot_reply_spec.specs.Period.{SmallestExponent, periodValue, scaled}
+use Rattle.dshot_reply_spec.specs.Runs.{high}
 
 -- no exponent below e leaves at most 511
 abbrev Short : ℕ → ℕ → Type 0

@@ -14,7 +14,7 @@ use lib.Pow.{pow-add}
 use lib.ListN.{length, take, drop, replicate, length-append, length-replicate}
 use lib.Seq.{drop-at}
 use Rattle.dshot_reply_spec.specs.Answer.{Answer, given, noReply, refused}
-use Rattle.dshot_reply_spec.specs.Render.{Lasts, Renders, Runs, closed-low, open-end, run}
+use Rattle.dshot_reply_spec.specs.Render.{Lasts, RenderedRuns, Renders, closed-low, open-end, run}
 use Rattle.dshot_reply_spec.specs.Runs.{assemble, finished, firstLow, fromLevels, runBits, runsOf, runsWord, sum}
 
 -- ---- runs of samples
@@ -34,11 +34,11 @@ lasts-some : (s k n : ℕ) → 0 < s → Lasts s k n → 0 < n
 lasts-some s k n p h = omega (arith, le-mul-of-pos-right {m = k} s (h .0))
 
 -- what is read starts at the level of its first run
-starts : (s : ℕ) → 0 < s → {l : Bool} {ks : List ℕ} {ls : List Bool} → Runs s l ks ls → (t : List Bool) × (ls ≡ l ∷ t)
+starts : (s : ℕ) → 0 < s → {l : Bool} {ks : List ℕ} {ls : List Bool} → RenderedRuns s l ks ls → (t : List Bool) × (ls ≡ l ∷ t)
 starts s p (run l k n ks ls h r) = (replicate (pred n) l ++ ls, ap (λ (x : List Bool). x ++ ls) (replicate-pos l n (lasts-some s k n p h)))
-starts s p (open-end l k n h) = (replicate n l, refl)
-starts s p (closed-low k n m h) =
-    (replicate (pred n) false ++ replicate (suc m) true, ap (λ (x : List Bool). x ++ replicate (suc m) true) (replicate-pos false n (lasts-some s k n p h)))
+starts s p (open-end l k n h some) = (replicate (pred n) l, replicate-pos l n some)
+starts s p (closed-low k n m h some) =
+    (replicate (pred n) false ++ replicate m true, ap (λ (x : List Bool). x ++ replicate m true) (replicate-pos false n (lasts-some s k n p h)))
 
 same-level : (l : Bool) (n : ℕ) (ls : List Bool) → finished l n (l ∷ ls) ≡ finished l (suc n) ls
 same-level true n ls = refl
@@ -72,14 +72,14 @@ got-more : (k : ℕ) {ks got : List ℕ} → Got ks got → Got (k ∷ ks) (k �
 got-more k (inl e) = inl (ap (λ (x : List ℕ). k ∷ x) e)
 got-more k (inr q) = inr (q .0, q .1, ap (λ (x : List ℕ). k ∷ x) (q .2))
 
-pub runs-got : (s : ℕ) → 0 < s → {l : Bool} {ks : List ℕ} {ls : List Bool} → Runs s l ks ls → Got ks (map (runBits s) (finished l 0 ls))
+pub runs-got : (s : ℕ) → 0 < s → {l : Bool} {ks : List ℕ} {ls : List Bool} → RenderedRuns s l ks ls → Got ks (map (runBits s) (finished l 0 ls))
 runs-got s p (run l k n ks ls h r) = go (starts s p r) (runs-got s p r)
   where
     go : (t : List Bool) × (ls ≡ not l ∷ t) → Got ks (map (runBits s) (finished (not l) 0 ls)) → Got (k ∷ ks) (map (runBits s) (finished l 0 (replicate n l ++ ls)))
     go t g = rw (finished-closed l n ls (t .0) (t .1), lasts-bits s k n p h) (got-more k g)
-runs-got s p (open-end l k n h) = inr (k, h, rw (finished-open l (suc n)))
-runs-got s p (closed-low k n m h) =
-    inl (rw (finished-closed false n (replicate (suc m) true) (replicate m true) refl, finished-open true (suc m), lasts-bits s k n p h))
+runs-got s p (open-end l k n h some) = inr (k, h, rw (finished-open l n))
+runs-got s p (closed-low k n m h some) =
+    inl (rw (finished-closed false n (replicate m true) (replicate (pred m) true) (replicate-pos true m some), finished-open true m, lasts-bits s k n p h))
 
 -- ---- what those bits are assembled to
 

@@ -13,20 +13,16 @@ use lib.Pow.{pow-add, mod-pow-add, split}
 use borrow.Author.Tests.{eqb-true, eqb-false}
 use Rattle.dshot_reply_spec.specs.Answer.{pick}
 use Rattle.dshot_reply_spec.specs.Move.{bit}
-use Rattle.dshot_reply_spec.specs.Render.{Renders, Runs, closed-low, open-end, run}
+use Rattle.dshot_reply_spec.specs.Render.{RenderedRuns, Renders, closed-low, open-end, run}
 use Rattle.dshot_reply_spec.specs.Runs.{runsWord, sum}
 use Rattle.dshot_reply_spec.specs.Simulate.{bitLevels, nextLevel, wordLevels}
 
 -- two bits of high samples close a low run and prolong a high one
-ends : (s : ℕ) → 0 < s → (l : Bool) (c : ℕ) → 0 < c → Runs s l (c ∷ []) (replicate (s * c) l ++ replicate (2 * s) true)
+ends : (s : ℕ) → 0 < s → (l : Bool) (c : ℕ) → 0 < c → RenderedRuns s l (c ∷ []) (replicate (s * c) l ++ replicate (2 * s) true)
 ends s p true c h =
-    let e : suc (s * c + (2 * s - 1)) ≡ s * c + 2 * s = omega arith in
-    subst (λ (ls : List Bool). Runs s true (c ∷ []) ls) (ap (λ (n : ℕ). replicate n true) e ∙ sym (replicate-append-replicate (s * c) (2 * s) true))
-    (open-end true c (s * c + (2 * s - 1)) h)
-ends s p false c h =
-    let e : suc (2 * s - 1) ≡ 2 * s = omega arith in
-    subst (λ (n : ℕ). Runs s false (c ∷ []) (replicate (s * c) false ++ replicate n true)) e
-    (closed-low c (s * c) (2 * s - 1) (h, omega arith, omega arith))
+    subst (λ (ls : List Bool). RenderedRuns s true (c ∷ []) ls) (sym (replicate-append-replicate (s * c) (2 * s) true))
+    (open-end true c (s * c + 2 * s) h (omega arith))
+ends s p false c h = closed-low c (s * c) (2 * s) (h, omega arith, omega arith) (omega arith)
 
 -- the word that follows from c bits of a run, with i bits w to come
 abbrev wordFrom : ℕ → ℕ → ℕ → ℕ → ℕ
@@ -36,7 +32,7 @@ record Rest (s : ℕ) (l : Bool) (c i w : ℕ) : Type 0 where
   ks : List ℕ
   total : sum ks ≡ c + i
   word : (acc : ℕ) → runsWord acc ks ≡ wordFrom acc c i w
-  runs : Runs s l ks (replicate (s * c) l ++ (bitLevels s l i w ++ replicate (2 * s) true))
+  runs : RenderedRuns s l ks (replicate (s * c) l ++ (bitLevels s l i w ++ replicate (2 * s) true))
 
 pub low-bits : (w i : ℕ) → w % 2 ^ suc i ≡ bit w i * 2 ^ i + w % 2 ^ i
 low-bits w i =
@@ -76,7 +72,7 @@ edge-rest s l c i w h b e r = record {
   ks = c ∷ r .ks;
   total = omega (arith, r .total);
   word = λ acc. r .word (acc * 2 ^ c + 2 ^ (c - 1)) ∙ edge-word acc c i w h b;
-  runs = subst (λ (ls : List Bool). Runs s l (c ∷ r .ks) (replicate (s * c) l ++ ls))
+  runs = subst (λ (ls : List Bool). RenderedRuns s l (c ∷ r .ks) (replicate (s * c) l ++ ls))
       (ap (λ (n : ℕ). replicate n (not l) ++ (bitLevels s (not l) i w ++ replicate (2 * s) true)) (mul-one s)
       ∙ sym (append-assoc (replicate s (not l)) (bitLevels s (not l) i w) (replicate (2 * s) true))
       ∙ ap (λ (ls : List Bool). ls ++ replicate (2 * s) true) (sym (step s l (not l) i w e)))
@@ -88,7 +84,7 @@ stay-rest s l c i w b e r = record {
   ks = r .ks;
   total = omega (arith, r .total);
   word = λ acc. r .word acc ∙ stay-word acc c i w b;
-  runs = subst (λ (ls : List Bool). Runs s l (r .ks) ls)
+  runs = subst (λ (ls : List Bool). RenderedRuns s l (r .ks) ls)
       (longer s l c (bitLevels s l i w ++ replicate (2 * s) true)
       ∙ ap (λ (ls : List Bool). replicate (s * c) l ++ ls)
       (sym (append-assoc (replicate s l) (bitLevels s l i w) (replicate (2 * s) true)) ∙ ap (λ (ls : List Bool). ls ++ replicate (2 * s) true) (sym (step s l l i w e))))
@@ -144,7 +140,7 @@ word-renders s p w lead m b h =
       room = omega (arith, length-append (bitLevels s true 21 w) (replicate m true), length-bits s true 21 w);
       bits = r .total;
       word = r .word 0 ∙ omega (arith, split w 20);
-      rendered = subst (λ (ls : List Bool). Runs s false (r .ks) ls)
+      rendered = subst (λ (ls : List Bool). RenderedRuns s false (r .ks) ls)
           (ap (λ (n : ℕ). replicate n false ++ (bitLevels s false 20 w ++ replicate (2 * s) true)) (mul-one s)
           ∙ sym (append-assoc (replicate s false) (bitLevels s false 20 w) (replicate (2 * s) true))
           ∙ sym (read-part s w m h ∙ ap (λ (ls : List Bool). ls ++ replicate (2 * s) true) first))

@@ -15,7 +15,6 @@ use Rattle.dshot_reply_spec.proofs.Moves.{moved-decode}
 use Rattle.dshot_reply_spec.proofs.Rendered.{rendered-read}
 use Rattle.dshot_reply_spec.specs.Answer.{Answer, Rejected, given, invalidSymbol, noReply, pick, refused, then, zeroPeriod}
 use Rattle.dshot_reply_spec.specs.Claims.{MovedEdge}
-use Rattle.dshot_reply_spec.specs.Edt.{typed}
 use Rattle.dshot_reply_spec.specs.Gcr.{decodeWord, replyWord}
 use Rattle.dshot_reply_spec.specs.Move.{Formed, Moved, Turned, wordValue}
 use Rattle.dshot_reply_spec.specs.Reading.{sampledReply, wordReply}
@@ -47,10 +46,10 @@ value-sound : (value : ℕ) (extended : Bool) → Sound (replyOf value extended)
 unfolding replyOf
 value-sound value extended =
     let v = value % 4096 in
-    let typed = given (readingOf (v / 512) (v % 256)) in
+    let other = given (readingOf (v / 512) (v % 256)) in
     let speeds = not extended || (eqb (v / 256 % 2) 1 || eqb (v / 256) 0) in
-    sound-pick (not extended && eqb v 0xe00) (given edt) (pick speeds (speedValue v) typed) (sound-given edt)
-    (sound-pick speeds (speedValue v) typed (speed-value-sound v) (sound-given (readingOf (v / 512) (v % 256))))
+    sound-pick (not extended && eqb v 0xe00) (given edt) (pick speeds (speedValue v) other) (sound-given edt)
+    (sound-pick speeds (speedValue v) other (speed-value-sound v) (sound-given (readingOf (v / 512) (v % 256))))
 
 sound-kept : (a : Answer Reading) → Sound a → Rejected a → ⊥
 sound-kept a (inl p) j = let e = p .1 in let f = j .refusal in let z : _≡_ {A = ℕ} 0 1 = cc in omega arith

@@ -1,5 +1,5 @@
--- A bidirectional DShot reply as Betaflight's DShot documents describe it, bit by bit as it goes over the wire. Written from what those
--- documents say, as far as that is known without their text at hand (docs/DIFFERENCES.md), and not from the code.
+-- A bidirectional DShot reply as Betaflight's DShot documentation describes it, bit by bit as it goes over the wire. Written from what is known
+-- of that documentation, whose text was not at hand (docs/DIFFERENCES.md), and not from the code.
 -- Assumes nothing.
 use Prim.Native.Nat.{ℕ, _+_, _-_, _*_, _/_, _%_, _^_}
 use mathlib.Core.Bool.{Bool, false, not}
@@ -54,10 +54,11 @@ sampled s (l ∷ ls) = replicate s l ++ sampled s ls
 abbrev pub period : ℕ → ℕ
 period v = v % 512 * 2 ^ (v / 512)
 
--- the whole number nearest to a / b, halves up
+-- eRPM is 60 000 000 microseconds a minute over the period, and 0xFFF stands for a stopped rotor. The documentation says neither how a
+-- quotient is rounded nor what a period of 0 means: that it is given in hundreds, to the nearest and halves up, and that 0 is refused, is
+-- document 01's
 abbrev pub nearest : ℕ → ℕ → ℕ
 nearest a b = (2 * a + b) / (2 * b)
 
--- 60 000 000 microseconds a minute, in hundreds: 0xFFF stands for a rotor at rest, and a period of 0 for no speed
 unfoldable pub speed : ℕ → Answer Reading
 speed v = pick (eqb v 0xfff) (given (erpm 0)) (pick (eqb (period v) 0) (refused zeroPeriod) (given (erpm (nearest 600000 (period v)))))

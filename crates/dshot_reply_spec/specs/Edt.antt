@@ -1,5 +1,5 @@
--- A value as the Extended DShot Telemetry (EDT) specification reads it. Written from what the specification says, as far as that is known
--- without its text at hand (docs/DIFFERENCES.md), and not from the code.
+-- A value as the Extended DShot Telemetry (EDT) specification reads it. Written from what is known of the specification, whose text was not at
+-- hand (docs/DIFFERENCES.md), and not from the code.
 -- Assumes nothing.
 use Prim.Native.Nat.{ℕ, _/_, _%_}
 use mathlib.Core.Bool.{Bool, true, false}
@@ -16,7 +16,8 @@ frameType v = v / 256
 abbrev pub isSpeed : ℕ → Bool
 isSpeed t = pick (eqb (t % 2) 1) true (eqb t 0)
 
--- the typed frames: degrees Celsius, quarter volts, amperes, three debug values, and the state with its events
+-- the typed frames: degrees Celsius, quarter volts, amperes, three debug values, and the state with its events. Type 0xC is the third debug
+-- value, as in the versions before it became the stress level
 unfoldable pub typed : ℕ → ℕ → Reading
 typed t n =
     pick (eqb t 0x2) (temp n)

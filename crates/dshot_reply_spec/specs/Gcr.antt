@@ -1,6 +1,7 @@
 -- The GCR code of a reply: sixteen symbols of five bits, one for
 -- each nibble, the word of four symbols that a value is sent as, and what a word decodes to.
--- Stands for `decode_gcr` and `reply_transitions_for` of crates/ferrowasp-output/src/dshot_reply.rs (Eirik2020/ferro-wasp, commit 9cb8aca1a6, Apache-2.0), rewritten as a definition.
+-- Stands for `decode_gcr` and `reply_transitions_for` of crates/ferrowasp-output/src/dshot_reply.rs (Eirik2020/ferro-wasp, commit
+-- 9cb8aca1a6, Copyright (c) 2026 Kaldstrand, Apache-2.0), changed: rewritten as a definition.
 -- Assumes nothing.
 use Prim.Native.Nat.{ℕ, zero, suc, _+_, _*_, _/_, _%_, _^_}
 use mathlib.Core.List.{List, [], _∷_}

@@ -19,18 +19,18 @@ pub record Moved (w w′ i j : ℕ) : Type 0 where
   pub moved : w′ + 2 ^ i ≡ w + 2 ^ j
 
 -- which two neighbouring nibbles can turn into which: 1,9 into 8,0 and 1,D into 8,4, and back
-abbrev pub turns : List (List ℕ)
-turns = (1 ∷ 9 ∷ 8 ∷ 0 ∷ []) ∷ (8 ∷ 0 ∷ 1 ∷ 9 ∷ []) ∷ (1 ∷ 0xd ∷ 8 ∷ 4 ∷ []) ∷ (8 ∷ 4 ∷ 1 ∷ 0xd ∷ []) ∷ []
+abbrev pub turnTable : List (List ℕ)
+turnTable = (1 ∷ 9 ∷ 8 ∷ 0 ∷ []) ∷ (8 ∷ 0 ∷ 1 ∷ 9 ∷ []) ∷ (1 ∷ 0xd ∷ 8 ∷ 4 ∷ []) ∷ (8 ∷ 4 ∷ 1 ∷ 0xd ∷ []) ∷ []
 
 -- the nibbles a, b turn into c, d: that is one of those rows
 abbrev pub Turns : ℕ → ℕ → ℕ → ℕ → Type 0
-Turns a b c d = List·Memᴰ (a ∷ b ∷ c ∷ d ∷ []) turns
+Turns a b c d = List·Memᴰ (a ∷ b ∷ c ∷ d ∷ []) turnTable
 
 -- some two neighbouring nibbles of the word w, the checksum among them, turn so in w′
 pub record Turned (w w′ : ℕ) : Type 0 where
   pub place : ℕ
   pub within : place < 3
-  pub turns : Turns (nibbleAt w (place + 1)) (nibbleAt w place) (nibbleAt w′ (place + 1)) (nibbleAt w′ place)
+  pub row : Turns (nibbleAt w (place + 1)) (nibbleAt w place) (nibbleAt w′ (place + 1)) (nibbleAt w′ place)
 
 -- the value of a word's nibbles
 abbrev pub wordValue : ℕ → ℕ
@@ -40,7 +40,7 @@ wordValue w = nibbleAt w 3 * 256 + nibbleAt w 2 * 16 + nibbleAt w 1
 pub record TurnedValue (v v′ : ℕ) : Type 0 where
   pub place : ℕ
   pub within : place < 3
-  pub turns : Turns (replyNibble v (place + 1)) (replyNibble v place) (replyNibble v′ (place + 1)) (replyNibble v′ place)
+  pub row : Turns (replyNibble v (place + 1)) (replyNibble v place) (replyNibble v′ (place + 1)) (replyNibble v′ place)
   pub others : (p : ℕ) → p < 4 → (p ≡ place → ⊥) → (p ≡ place + 1 → ⊥) → replyNibble v′ p ≡ replyNibble v p
 
 -- the changed word is the reply word of the value v′ that the turned nibbles form

@@ -1,5 +1,6 @@
 -- What the reader answers for a capture: every layer at once.
--- Stands for `decode_sampled_reply` of crates/ferrowasp-output/src/dshot_reply.rs (Eirik2020/ferro-wasp, commit 9cb8aca1a6, Apache-2.0), rewritten as a definition.
+-- Stands for `decode_sampled_reply` of crates/ferrowasp-output/src/dshot_reply.rs (Eirik2020/ferro-wasp, commit
+-- 9cb8aca1a6, Copyright (c) 2026 Kaldstrand, Apache-2.0), changed: rewritten as a definition.
 -- Assumes nothing.
 use Prim.Native.Nat.{ℕ}
 use mathlib.Core.Bool.{Bool}

@@ -1,6 +1,6 @@
 -- A capture that renders a word, and a word that is damaged within one symbol: document 01's terms "renders" and "damage".
 -- Assumes nothing.
-use Prim.Native.Nat.{ℕ, suc, _+_, _-_, _*_, _/_, _≤_, _<_}
+use Prim.Native.Nat.{ℕ, _+_, _-_, _*_, _/_, _≤_, _<_}
 use mathlib.Core.Path.{_≡_}
 use mathlib.Core.Bool.{Bool, true, false, not}
 use mathlib.Core.List.{List, [], _∷_, _++_}
@@ -15,10 +15,10 @@ Lasts s k n = (0 < k) × (s * k ≤ n + (s - 1) / 2) × (n ≤ s * k + (s - 1) /
 -- the levels that are read, as runs of ks bits whose levels take turns, the first at the level l. Each run has a sample that is read, so
 -- every edge lies inside what is read. The last run has one of three endings: high, it stays high to the end of reading; low, it closes and
 -- all that is read after it is high; or low, it does not close before the end of reading
-pub data Runs (s : ℕ) : Bool → List ℕ → List Bool → Type 0 where
-  run : (l : Bool) (k n : ℕ) (ks : List ℕ) (ls : List Bool) → Lasts s k n → Runs s (not l) ks ls → Runs s l (k ∷ ks) (replicate n l ++ ls)
-  open-end : (l : Bool) (k n : ℕ) → 0 < k → Runs s l (k ∷ []) (replicate (suc n) l)
-  closed-low : (k n m : ℕ) → Lasts s k n → Runs s false (k ∷ []) (replicate n false ++ replicate (suc m) true)
+pub data RenderedRuns (s : ℕ) : Bool → List ℕ → List Bool → Type 0 where
+  run : (l : Bool) (k n : ℕ) (ks : List ℕ) (ls : List Bool) → Lasts s k n → RenderedRuns s (not l) ks ls → RenderedRuns s l (k ∷ ks) (replicate n l ++ ls)
+  open-end : (l : Bool) (k n : ℕ) → 0 < k → 0 < n → RenderedRuns s l (k ∷ []) (replicate n l)
+  closed-low : (k n m : ℕ) → Lasts s k n → 0 < m → RenderedRuns s false (k ∷ []) (replicate n false ++ replicate m true)
 
 -- a capture's levels render the 21 bits of the word w: high before the start, 19 bits of samples from there on, and the runs of w in the
 -- 23 bits of samples that are read at most
@@ -30,7 +30,7 @@ pub record Renders (s : ℕ) (ls : List Bool) (w : ℕ) : Type 0 where
   pub room : 19 * s ≤ length after
   pub bits : sum runs ≡ 21
   pub word : runsWord 0 runs ≡ w
-  pub rendered : Runs s false runs (take (23 * s) after)
+  pub rendered : RenderedRuns s false runs (take (23 * s) after)
 
 -- damage changes the symbol at place p, and nothing else
 pub record Damaged (w w′ p : ℕ) : Type 0 where

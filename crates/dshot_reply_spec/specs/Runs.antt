@@ -1,5 +1,6 @@
 -- The samples of a lane as runs of equal levels, and the runs as the transition bits of a reply, at s samples a bit.
--- Stands for `reply_transitions` of crates/ferrowasp-output/src/dshot_reply.rs (Eirik2020/ferro-wasp, commit 9cb8aca1a6, Apache-2.0), rewritten as a definition.
+-- Stands for `reply_transitions` of crates/ferrowasp-output/src/dshot_reply.rs (Eirik2020/ferro-wasp, commit
+-- 9cb8aca1a6, Copyright (c) 2026 Kaldstrand, Apache-2.0), changed: rewritten as a definition.
 -- Assumes nothing.
 use Prim.Native.Nat.{ℕ, suc, _+_, _-_, _*_, _/_, _^_, max}
 use mathlib.Core.Bool.{Bool, true, false, not}

@@ -1,6 +1,7 @@
 -- The meaning of a checked 12-bit value: a speed, a reading, or the
 -- acknowledgement of extended telemetry (EDT).
--- Stands for `DshotReply::from_value` of crates/ferrowasp-output/src/dshot_reply.rs (Eirik2020/ferro-wasp, commit 9cb8aca1a6, Apache-2.0), rewritten as a definition.
+-- Stands for `DshotReply::from_value` of crates/ferrowasp-output/src/dshot_reply.rs (Eirik2020/ferro-wasp, commit
+-- 9cb8aca1a6, Copyright (c) 2026 Kaldstrand, Apache-2.0), changed: rewritten as a definition.
 -- Assumes nothing.
 use Prim.Native.Nat.{ℕ, _+_, _-_, _*_, _/_, _%_, _^_}
 use mathlib.Core.Bool.{Bool, not, _&&_, _||_}
@@ -21,7 +22,7 @@ pub data Reading : Type 0 where
 unfoldable pub speedOf : ℕ → Answer Reading
 speedOf period = pick (eqb period 0) (refused zeroPeriod) (given (erpm ((600000 + period / 2) / period)))
 
--- a period is nine bits, shifted by three: 0xFFF is a motor that stands still
+-- a period is the lowest nine bits, shifted left by the top three: 0xFFF is a stopped rotor
 unfoldable pub speedValue : ℕ → Answer Reading
 speedValue v = pick (eqb v 0xfff) (given (erpm 0)) (speedOf (v % 512 * 2 ^ (v / 512)))
 

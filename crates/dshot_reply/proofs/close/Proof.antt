@@ -11,7 +11,7 @@ use Rattle.dshot_reply.specs.Steps.{closed}
 
 returns : tie.Need-returns
 unfolding closed
-returns c = simp (lt-ltb _ _ (c .if1 .taken))
+returns c = simp (lt-ltb (c .before .args .bits) 18 (omega arith))
 
 sub-push-run : tie.Need-sub-push-run
 sub-push-run c = search needs
@@ -23,11 +23,15 @@ push-run-requires c κs =
 
 returns-2 : tie.Need-returns-2
 unfolding closed
-returns-2 c = simp (le-ltb _ _ (c .before .before .if1 .left), lt-ltb _ _ (c .before .if2 .taken), c .push-run .ensures)
+returns-2 c =
+    let bits = c .before .before .before .args .bits in
+    simp (le-ltb bits 18 (omega arith), lt-ltb bits 21 (omega arith), c .push-run .ensures)
 
 returns-3 : tie.Need-returns-3
 unfolding closed
-returns-3 c = simp (le-ltb _ _ (c .before .if1 .left), le-ltb _ _ (c .if2 .left))
+returns-3 c =
+    let bits = c .before .before .args .bits in
+    simp (le-ltb bits 18 (omega arith), le-ltb bits 21 (omega arith))
 
 pub close-spec : {M : Type 1} → statement M
 close-spec = tie.close (tie.spec returns sub-push-run push-run-requires returns-2 returns-3)

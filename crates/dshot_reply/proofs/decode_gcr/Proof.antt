@@ -7,23 +7,23 @@ use Rattle.dshot_reply.proofs.decode_gcr.Statement.{statement}
 use Rattle.dshot_reply.proofs.decode_gcr.Tie as tie
 use Rattle.dshot_reply_spec.specs.Gcr.{nibbleOf}
 use Rattle.dshot_reply.proofs.DecodeLaws.{decode-last, decode-three, decode-unequal, decode-value}
-use Rattle.dshot_reply.proofs.Tables.{decode-test, decodes}
+use Rattle.dshot_reply.proofs.Tables.{decode-test, decode-rule}
 
 symbol-nibble-requires : tie.Need-symbol-nibble-requires
 unfolding decode-test nibbleOf
-symbol-nibble-requires c κs = (decodes _ tt, search needs)
+symbol-nibble-requires c κs = (decode-rule _ tt, search needs)
 
 symbol-nibble-requires-2 : tie.Need-symbol-nibble-requires-2
 unfolding decode-test nibbleOf
-symbol-nibble-requires-2 c κs = (decodes _ tt, search needs)
+symbol-nibble-requires-2 c κs = (decode-rule _ tt, search needs)
 
 symbol-nibble-requires-3 : tie.Need-symbol-nibble-requires-3
 unfolding decode-test nibbleOf
-symbol-nibble-requires-3 c κs = (decodes _ tt, search needs)
+symbol-nibble-requires-3 c κs = (decode-rule _ tt, search needs)
 
 symbol-nibble-requires-4 : tie.Need-symbol-nibble-requires-4
 unfolding decode-test nibbleOf
-symbol-nibble-requires-4 c κs = (decodes _ tt, search needs)
+symbol-nibble-requires-4 c κs = (decode-rule _ tt, search needs)
 
 add-if1 : tie.Need-add-if1
 add-if1 c = search needs

@@ -5,25 +5,25 @@ use Rattle.dshot_reply.proofs.reply_transitions_for.Statement.{statemen
 use Rattle.dshot_reply.proofs.reply_transitions_for.Tie as tie
 use Rattle.dshot_reply_spec.proofs.Decode.{nibble-lt}
 use Rattle.dshot_reply_spec.specs.Gcr.{replyWord, wordOf}
-use Rattle.dshot_reply.proofs.Tables.{encode-test, encodes}
+use Rattle.dshot_reply.proofs.Tables.{encode-test, encode-rule}
 
 nibble-symbol-requires : tie.Need-nibble-symbol-requires
 unfolding encode-test
-nibble-symbol-requires c κs = (encodes _ tt, search needs)
+nibble-symbol-requires c κs = (encode-rule _ tt, search needs)
 
 nibble-symbol-requires-2 : tie.Need-nibble-symbol-requires-2
 unfolding encode-test
-nibble-symbol-requires-2 c κs = (encodes _ tt, search needs)
+nibble-symbol-requires-2 c κs = (encode-rule _ tt, search needs)
 
 nibble-symbol-requires-3 : tie.Need-nibble-symbol-requires-3
 unfolding encode-test
-nibble-symbol-requires-3 c κs = (encodes _ tt, search needs)
+nibble-symbol-requires-3 c κs = (encode-rule _ tt, search needs)
 
 nibble-symbol-requires-4 : tie.Need-nibble-symbol-requires-4
 unfolding encode-test
 nibble-symbol-requires-4 c κs =
     let v = c .before .before .before .before .before .before .before .args .value in
-    (encodes _ tt, nibble-lt v 0)
+    (encode-rule _ tt, nibble-lt v 0)
 
 add-result : tie.Need-add-result
 add-result c = search needs

@@ -1,4 +1,4 @@
--- The numbers and values of document 01 tell the answer of each enum: from what a promise fixes, the answer itself is got back.
+-- The definitions that give each enum document 01's numbers and values are injective, so the equation of a promise determines the answer.
 -- Assumes nothing.
 use mathlib.Core.Path.{_≡_, refl, sym, ap, _∙_}
 use Prim.Native.Nat.{ℕ}
@@ -21,9 +21,9 @@ use Rattle.dshot_reply.specs.declared.simulate.PeriodValue.the-variants 
 use Rattle.dshot_reply.specs.declared.simulate.Simulated.{Simulated}
 use Rattle.dshot_reply.specs.declared.simulate.Simulated.the-variants.{Written, NoMask, WrongLength}
 
--- what undoes a function tells its argument
-tells : {A B : Type 0} (f : A → B) (back : B → A) → ((a : A) → back (f a) ≡ a) → (a b : A) → f a ≡ f b → a ≡ b
-tells f back undone a b e = sym (undone a) ∙ ap back e ∙ undone b
+-- a function that has a left inverse is injective
+injective : {A B : Type 0} (f : A → B) (back : B → A) → ((a : A) → back (f a) ≡ a) → (a b : A) → f a ≡ f b → a ≡ b
+injective f back undone a b e = sym (undone a) ∙ ap back e ∙ undone b
 
 errorOf : ℕ → DshotReplyError
 errorOf n = pick (eqb n 7) NoReply (pick (eqb n 8) Overlong (pick (eqb n 9) InvalidSymbol (pick (eqb n 10) Checksum ZeroPeriod)))
@@ -36,8 +36,8 @@ error-back InvalidSymbol = refl
 error-back Checksum = refl
 error-back ZeroPeriod = refl
 
-pub error-told : (e f : DshotReplyError) → errorNumber e ≡ errorNumber f → e ≡ f
-error-told = tells errorNumber errorOf error-back
+pub errorNumber-injective : (e f : DshotReplyError) → errorNumber e ≡ errorNumber f → e ≡ f
+errorNumber-injective = injective errorNumber errorOf error-back
 
 transitionsOfAnswer : Answer ℕ → Transitions
 transitionsOfAnswer (given w) = Bits.Word w
@@ -48,8 +48,8 @@ unfolding transitionsOfAnswer
 transitions-back (Bits.Word w) = refl
 transitions-back (Bits.Refused e) = ap (λ (x : DshotReplyError). Bits.Refused x) (error-back e)
 
-pub transitions-told : (t u : Transitions) → transitionsAnswer t ≡ transitionsAnswer u → t ≡ u
-transitions-told = tells transitionsAnswer transitionsOfAnswer transitions-back
+pub transitionsAnswer-injective : (t u : Transitions) → transitionsAnswer t ≡ transitionsAnswer u → t ≡ u
+transitionsAnswer-injective = injective transitionsAnswer transitionsOfAnswer transitions-back
 
 decodedOfAnswer : Answer ℕ → Decoded
 decodedOfAnswer (given v) = Code.Value v
@@ -60,8 +60,8 @@ unfolding decodedOfAnswer
 decoded-back (Code.Value v) = refl
 decoded-back (Code.Refused e) = ap (λ (x : DshotReplyError). Code.Refused x) (error-back e)
 
-pub decoded-told : (d e : Decoded) → decodedAnswer d ≡ decodedAnswer e → d ≡ e
-decoded-told = tells decodedAnswer decodedOfAnswer decoded-back
+pub decodedAnswer-injective : (d e : Decoded) → decodedAnswer d ≡ decodedAnswer e → d ≡ e
+decodedAnswer-injective = injective decodedAnswer decodedOfAnswer decoded-back
 
 replyOfReading : Reading → DshotReply
 replyOfReading (erpm n) = Erpm n
@@ -91,8 +91,8 @@ unfolding readOfAnswer
 read-back (Read.Reply r) = ap (λ (x : DshotReply). Read.Reply x) (reading-back r)
 read-back (Read.Refused e) = ap (λ (x : DshotReplyError). Read.Refused x) (error-back e)
 
-pub reply-told : (r s : ReplyRead) → replyAnswer r ≡ replyAnswer s → r ≡ s
-reply-told = tells replyAnswer readOfAnswer read-back
+pub replyAnswer-injective : (r s : ReplyRead) → replyAnswer r ≡ replyAnswer s → r ≡ s
+replyAnswer-injective = injective replyAnswer readOfAnswer read-back
 
 periodOfAnswer : Answer ℕ → PeriodValue
 periodOfAnswer (given v) = Period.Value v
@@ -103,8 +103,8 @@ unfolding periodOfAnswer
 period-back (Period.Value v) = refl
 period-back Period.OutOfRange = refl
 
-pub period-told : (p q : PeriodValue) → periodAnswer p ≡ periodAnswer q → p ≡ q
-period-told = tells periodAnswer periodOfAnswer period-back
+pub periodAnswer-injective : (p q : PeriodValue) → periodAnswer p ≡ periodAnswer q → p ≡ q
+periodAnswer-injective = injective periodAnswer periodOfAnswer period-back
 
 simulatedOf : ℕ → Simulated
 simulatedOf n = pick (eqb n 0) Written (pick (eqb n 12) NoMask WrongLength)
@@ -115,5 +115,5 @@ simulated-back Written = refl
 simulated-back NoMask = refl
 simulated-back WrongLength = refl
 
-pub simulated-told : (s t : Simulated) → simulatedNumber s ≡ simulatedNumber t → s ≡ t
-simulated-told = tells simulatedNumber simulatedOf simulated-back
+pub simulatedNumber-injective : (s t : Simulated) → simulatedNumber s ≡ simulatedNumber t → s ≡ t
+simulatedNumber-injective = injective simulatedNumber simulatedOf simulated-back
