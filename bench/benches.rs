@@ -2,6 +2,7 @@
 
 use crate::calls::{library_decode, library_reading, original_decode, original_reading};
 use crate::inputs::{self, MASK};
+use crate::{library, original};
 use std::hint::black_box;
 use std::rc::Rc;
 
@@ -62,24 +63,26 @@ pub fn all() -> [Bench; 5] {
     [
         readings("exact reply, lead 10", inputs::exact_replies()),
         readings("jittered reply, lead 85", inputs::late_replies()),
-        readings("window without a reply", inputs::silent_windows()),
+        readings("window without a reply", inputs::windows_without_reply()),
         decodings("decode_gcr, reply words", inputs::words()),
         decodings("decode_gcr, half damaged", inputs::damaged_words()),
     ]
 }
 
-/// A side that answers wrong is no side to measure.
+/// The two sides are measured only where they give the same answers.
 pub fn agree() -> bool {
-    let refusal = |window: &Window| library_reading(window, MASK, false, &mut [0; 3]);
-    let taken = |window: &Window| {
-        let original = original_reading(window, MASK, false);
-        original.is_ok() == (refusal(window) == 0)
+    let same = |window: &Window| {
+        let original = original::decode_sampled_reply(window, MASK.into(), 0);
+        original == library::decode_sampled_reply(window, MASK.into(), 0, library::READING)
     };
-    let silent = |window: &Window| refusal(window) == 7;
-    inputs::exact_replies().iter().all(taken)
-        && inputs::late_replies().iter().all(taken)
-        && inputs::silent_windows().iter().all(silent)
-        && [inputs::words(), inputs::damaged_words()]
+    let sets = [
+        inputs::exact_replies(),
+        inputs::late_replies(),
+        inputs::windows_without_reply(),
+    ];
+    let lists = [inputs::words(), inputs::damaged_words()];
+    sets.iter().flatten().all(same)
+        && lists
             .iter()
             .all(|words| original_decode(words) == library_decode(words))
 }

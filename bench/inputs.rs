@@ -1,5 +1,5 @@
 //! What is measured: windows of 160 samples, and words. Each set has many different ones, so that
-//! a branch predictor does not learn them by heart.
+//! a branch predictor cannot foresee them.
 
 use crate::captures::{clean, exact, levels, noisy, Ending};
 use crate::random::Random;
@@ -42,7 +42,7 @@ pub fn late_replies() -> Windows {
 }
 
 /// The line stays high; the port's other pins are at random.
-pub fn silent_windows() -> Windows {
+pub fn windows_without_reply() -> Windows {
     let mut random = Random::new(3);
     let window = |_| noisy(&[true; REPLY_WINDOW_SAMPLES], MASK, &mut random);
     (0..WINDOWS).map(window).collect()

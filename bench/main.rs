@@ -9,11 +9,20 @@ mod time;
 
 // Shared with the comparison; a bench uses a part of each.
 #[allow(dead_code)]
+#[path = "../tools/compare/answer.rs"]
+mod answer;
+#[allow(dead_code)]
 #[path = "../tools/compare/captures.rs"]
 mod captures;
 #[allow(dead_code)]
 #[path = "../tools/compare/exports.rs"]
 mod exports;
+#[allow(dead_code)]
+#[path = "../tools/compare/library.rs"]
+mod library;
+#[allow(dead_code)]
+#[path = "../tools/compare/original.rs"]
+mod original;
 #[allow(dead_code)]
 #[path = "../tools/compare/random.rs"]
 mod random;

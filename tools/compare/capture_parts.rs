@@ -102,14 +102,20 @@ pub fn damaged() -> [Tally; 2] {
     let mut exactly = Tally::new("6 damaged captures, exact");
     let mut roughly = Tally::new("6 damaged captures, jittered");
     let mut random = Random::new(6);
+    let (mut words, mut taken) = (0, [0; 2]);
     for word in (0..VALUES).map(reply_transitions_for) {
         for word in damage::damaged(word) {
+            words += 1;
             for &ending in endings(word) {
-                capture(&mut exactly, &exact(word, ending), 1);
+                taken[0] += u64::from(capture(&mut exactly, &exact(word, ending), 1));
                 let samples = jittered_rendering(word, ending, &mut random);
-                capture(&mut roughly, &samples, 0x0020);
+                taken[1] += u64::from(capture(&mut roughly, &samples, 0x0020));
             }
         }
+    }
+    for (tally, taken) in [&mut exactly, &mut roughly].into_iter().zip(taken) {
+        tally.expect("words", words, u64::from(VALUES) * 4 * 31);
+        tally.expect("taken", taken, 0);
     }
     [exactly, roughly]
 }

@@ -12,8 +12,8 @@ mod list_values;
 mod original;
 mod plain;
 mod random;
+mod random_captures;
 mod records;
-mod textures;
 
 const FORMS: &str = "\
 # Made by `tools/compare/run FOLDER --list` from the source at commit 9cb8aca1a6.

@@ -17,6 +17,7 @@ pub fn groups() {
     bits_seen();
     masks();
     starts();
+    last_edges();
     low_endings();
     errors();
     replies();
@@ -111,6 +112,20 @@ fn starts() {
     println!("# no start: all samples high");
     show(&[1; ROOM], 1);
     show(&[1; WINDOW], 1);
+}
+
+/// Value 0 with so many of its runs a sample longer.
+fn longer(runs: usize) -> Vec<usize> {
+    let mut times = exact(reply_transitions_for(0));
+    times[..runs].iter_mut().for_each(|run| *run += 1);
+    times
+}
+
+fn last_edges() {
+    println!("# value 0 with eight runs a sample longer: its last edge is the last sample read");
+    assert_eq!(show_settings(&longer(8)), 11);
+    println!("# and with nine: the last edge is not read, and this is no rendering");
+    assert_eq!(show_settings(&longer(9)), 10);
 }
 
 /// The first two damaged words of which the last run is low and has so many bits.

@@ -2,7 +2,7 @@
 
 use crate::original::reply_transitions_for;
 use crate::random::Random;
-use crate::textures::{faulty, length, mask, strewn};
+use crate::random_captures::{faulty, length, mask, random_runs};
 use crate::{captures, records};
 
 const EACH: usize = 60;
@@ -40,7 +40,7 @@ fn word(random: &mut Random) -> u32 {
 fn capture(random: &mut Random) -> (Vec<u16>, u32) {
     let mask = mask(random);
     let levels = match random.below(4) {
-        0 => strewn(random),
+        0 => random_runs(random),
         _ => faulty(random),
     };
     let noise = mask != 0 && random.one_in(12);

@@ -13,12 +13,12 @@ mod moves;
 mod original;
 mod plain;
 mod random;
+mod random_captures;
 mod random_parts;
 mod records;
 mod rendering;
 mod slot_parts;
 mod tally;
-mod textures;
 mod value_parts;
 
 use std::process::ExitCode;

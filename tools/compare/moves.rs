@@ -1,7 +1,7 @@
 //! Words of which one edge is moved.
 
 /// How many moves there are over all reply words, and how many of them give a reply word again. The
-/// theorems on moved edges say the same.
+/// theorem `moved-edge` says which; it counts none.
 pub const MOVES: u64 = 46720;
 pub const TAKEN: u64 = 192;
 

@@ -1,8 +1,8 @@
-//! Part 8: random captures of 0 to 200 samples in three textures, on two threads.
+//! Part 8: random captures of 0 to 200 samples of three sorts, on two threads.
 
 use crate::random::Random;
+use crate::random_captures::{faulty, length, mask, random_runs, LONGEST};
 use crate::tally::Tally;
-use crate::textures::{faulty, length, mask, strewn, LONGEST};
 use crate::{capture_check, captures};
 
 const THREADS: u64 = 2;
@@ -25,7 +25,7 @@ fn some(count: u64, mut random: Random) -> Tally {
         let mask = mask(&mut random);
         let samples = match random.below(3) {
             0 => (0..LONGEST).map(|_| random.word() as u16).collect(),
-            1 => captures::noisy(&strewn(&mut random), mask, &mut random),
+            1 => captures::noisy(&random_runs(&mut random), mask, &mut random),
             _ => captures::noisy(&faulty(&mut random), mask, &mut random),
         };
         // The capture is the first part of what was made: samples behind it must not matter.

@@ -10,7 +10,7 @@ pub struct Tally {
     name: &'static str,
     pub compared: u64,
     pub differ: u64,
-    /// How often the source gave each answer: a part that only meets refusals would show little.
+    /// How often each answer was the right one: a part that only meets refusals would show little.
     answers: [u64; NUMBERS],
     smallest: Vec<(usize, String)>,
     notes: Vec<String>,

@@ -1,4 +1,4 @@
-// The exported calls on replies and the simulated ESC.
+// Added: the exported calls on replies and the simulated ESC. They wrap those of the crate `dshot_reply`.
 
 use dshot_reply::Decoded;
 use dshot_reply::DshotReply;

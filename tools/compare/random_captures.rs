@@ -23,7 +23,7 @@ pub fn length(random: &mut Random) -> usize {
 }
 
 /// Runs of 1 to 12 samples.
-pub fn strewn(random: &mut Random) -> Vec<bool> {
+pub fn random_runs(random: &mut Random) -> Vec<bool> {
     let lead = random.below(LONGEST / 2);
     let times: Vec<usize> = (0..50).map(|_| 1 + random.below(12)).collect();
     captures::levels(lead, &times, Ending::Open, LONGEST)
