@@ -1,13 +1,12 @@
--- Laws of the buffer into which the simulated ESC writes a word, three samples at a time, and of its three answers.
+-- Laws of the buffer into which the simulated ESC writes a word, s samples a bit, and of its three answers.
 -- Assumes nothing.
 use mathlib.Core.Path.{_≡_, sym, refl, ap, _∙_}
 use mathlib.Core.Bool.{Bool, true, false}
 use mathlib.Core.List.{List, [], _∷_, _++_, map, append-assoc, append-nil}
-use Prim.Native.Nat.{ℕ, zero, suc, _+_, _-_, _≤_}
-use native.Mathlib.Nat.{suc-add}
+use Prim.Native.Nat.{ℕ, zero, suc, _+_, _-_, _*_, _≤_}
 use native.Mathlib.Omega.{arith}
-use lib.ListN.{length, take, drop, set, replicate, length-append, length-replicate, length-map, replicate-append-replicate}
-use lib.Seq.{take-add, drop-drop, length-take-le, take-all}
+use lib.ListN.{length, take, drop, replicate, length-append, length-replicate, length-map, replicate-append-replicate}
+use lib.Seq.{take-add, take-at, drop-at, drop-drop, length-take-le, take-all}
 use borrow.Author.Tests.{ltb-false, eqb-false}
 use lib.Dec.{eqb, ltb}
 use Rattle.dshot_reply.specs.declared.simulate.Simulated.{Simulated}
@@ -21,76 +20,83 @@ use Rattle.dshot_reply_spec.specs.Simulate.{bitLevels, left, levelSample, nextL
 use Rattle.dshot_reply.specs.Answers.{simulatedNumber}
 use Rattle.dshot_reply.specs.Steps.{simulatedRefusal}
 
--- three stores next to each other
-put3 : (xs ys : List ℕ) (a b c x : ℕ)
-    → set (set (set (xs ++ (a ∷ b ∷ c ∷ ys)) (length xs) x) (length xs + 1) x) (length xs + 2) x ≡ xs ++ (x ∷ x ∷ x ∷ ys)
-put3 [] ys a b c x = refl
-put3 (y ∷ xs) ys a b c x = rw (suc-add (length xs) 1, suc-add (length xs) 2) (ap (λ (l : List ℕ). y ∷ l) (put3 xs ys a b c x))
-
-map-high : (m n : ℕ) → map (levelSample m) (replicate n true) ≡ replicate n m
-map-high m zero = refl
-map-high m (suc n) = ap (λ (l : List ℕ). m ∷ l) (map-high m n)
+map-same : (f : Bool → ℕ) (n : ℕ) (b : Bool) → map f (replicate n b) ≡ replicate n (f b)
+map-same f zero b = refl
+map-same f (suc n) b = ap (λ (l : List ℕ). f b ∷ l) (map-same f n b)
 
 map-join : (f : Bool → ℕ) (xs ys : List Bool) → map f (xs ++ ys) ≡ map f xs ++ map f ys
 map-join f [] ys = refl
 map-join f (x ∷ xs) ys = ap (λ (l : List ℕ). f x ∷ l) (map-join f xs ys)
 
--- the samples of all bits, and the buffer of n when the first k of those samples are written
-pub allSamples : ℕ → ℕ → List ℕ
-allSamples w m = map (levelSample m) (bitLevels 3 true 21 w)
+-- the samples of all bits of w, and the buffer of n when the first k of those samples are written
+pub allSamples : ℕ → ℕ → ℕ → List ℕ
+allSamples s w m = map (levelSample m) (bitLevels s true 21 w)
 
-abbrev pub after : ℕ → ℕ → ℕ → ℕ → ℕ → List ℕ
-after w lead m n k = (replicate lead m ++ take k (allSamples w m)) ++ replicate (n - lead - k) m
+abbrev pub after : ℕ → ℕ → ℕ → ℕ → ℕ → ℕ → List ℕ
+after s w lead m n k = (replicate lead m ++ take k (allSamples s w m)) ++ replicate (n - lead - k) m
 
 -- the samples of the lowest i bits, where l is the level before them, are what is left after k samples
-abbrev pub Left : ℕ → ℕ → Bool → ℕ → ℕ → Type 0
-Left w m l i k = map (levelSample m) (bitLevels 3 l i w) ≡ drop k (allSamples w m)
+abbrev pub Left : ℕ → ℕ → ℕ → Bool → ℕ → ℕ → Type 0
+Left s w m l i k = map (levelSample m) (bitLevels s l i w) ≡ drop k (allSamples s w m)
 
-module _ (w m : ℕ) where
-  pub left-start : Left w m true 21 0
+module _ (s w m : ℕ) where
+  pub left-start : Left s w m true 21 0
   unfolding allSamples
   left-start = refl
 
-  pub left-next : (l : Bool) (i k : ℕ) → Left w m l (suc i) k → Left w m (nextLevel l (bit w i)) i (k + 3)
-  left-next l i k e = ap (drop 3) e ∙ drop-drop 3 k (allSamples w m)
+  -- what is left begins with the samples of the next bit
+  left-split : (l : Bool) (i k : ℕ) → Left s w m l (suc i) k
+      → let b = nextLevel l (bit w i) in drop k (allSamples s w m) ≡ replicate s (levelSample m b) ++ map (levelSample m) (bitLevels s b i w)
+  left-split l i k e =
+      let b = nextLevel l (bit w i) in
+      sym e ∙ map-join (levelSample m) (replicate s b) (bitLevels s b i w)
+      ∙ ap (λ (z : List ℕ). z ++ map (levelSample m) (bitLevels s b i w)) (map-same (levelSample m) s b)
 
-  length-all : length (allSamples w m) ≡ 63
+  pub left-next : (l : Bool) (i k : ℕ) → Left s w m l (suc i) k → Left s w m (nextLevel l (bit w i)) i (k + s)
+  left-next l i k e =
+      let b = nextLevel l (bit w i) in
+      let x = levelSample m b in
+      sym (drop-at (replicate s x) (map (levelSample m) (bitLevels s b i w)) s (length-replicate s x))
+      ∙ ap (drop s) (sym (left-split l i k e)) ∙ drop-drop s k (allSamples s w m)
+
+  length-all : length (allSamples s w m) ≡ 21 * s
   unfolding allSamples
-  length-all = length-map (bitLevels 3 true 21 w) (levelSample m) ∙ length-bits 3 true 21 w
+  length-all = length-map (bitLevels s true 21 w) (levelSample m) ∙ omega (arith, length-bits s true 21 w)
 
-module _ (w lead m n : ℕ) (fits : lead + 63 ≤ n) where
-  pub after-start : replicate n m ≡ after w lead m n 0
+module _ (s w lead m n : ℕ) (fits : lead + 21 * s ≤ n) where
+  pub after-start : replicate n m ≡ after s w lead m n 0
   after-start =
       let e : n ≡ lead + (n - lead - 0) = omega arith in
       ap (λ (k : ℕ). replicate k m) e ∙ sym (replicate-append-replicate lead (n - lead - 0) m)
       ∙ ap (λ (l : List ℕ). l ++ replicate (n - lead - 0) m) (sym (append-nil (replicate lead m)))
 
-  pub after-next : (l : Bool) (i k : ℕ) → k + 3 ≤ 63 → Left w m l (suc i) k
-      → let x = levelSample m (nextLevel l (bit w i)) in set (set (set (after w lead m n k) (lead + k) x) (lead + k + 1) x) (lead + k + 2) x ≡ after w lead m n (k + 3)
+  -- the next bit's samples, put over what the buffer has there
+  pub after-next : (l : Bool) (i k : ℕ) → k + s ≤ 21 * s → Left s w m l (suc i) k
+      → let out = after s w lead m n k in
+      take (lead + k) out ++ (replicate s (levelSample m (nextLevel l (bit w i))) ++ drop s (drop (lead + k) out)) ≡ after s w lead m n (k + s)
   after-next l i k h e =
       let x = levelSample m (nextLevel l (bit w i)) in
-      let front = replicate lead m ++ take k (allSamples w m) in
-      let j = n - lead - (k + 3) in
-      let s : length front ≡ lead + k = length-append (replicate lead m) (take k (allSamples w m)) ∙ omega (arith, length-replicate lead m, length-take-le k (allSamples w m) (omega (arith, length-all w m))) in
-      let r : n - lead - k ≡ suc (suc (suc j)) = omega arith in
-      let t : take (k + 3) (allSamples w m) ≡ take k (allSamples w m) ++ (x ∷ x ∷ x ∷ []) = take-add k 3 (allSamples w m) ∙ ap (λ (z : List ℕ). take k (allSamples w m) ++ take 3 z) (sym e) in
-      ap (λ (p : ℕ). set (set (set (front ++ replicate p m) (lead + k) x) (lead + k + 1) x) (lead + k + 2) x) r
-      ∙ ap (λ (p : ℕ). set (set (set (front ++ (m ∷ m ∷ m ∷ replicate j m)) p x) (p + 1) x) (p + 2) x) (sym s)
-      ∙ put3 front (replicate j m) m m m x
-      ∙ sym (append-assoc front (x ∷ x ∷ x ∷ []) (replicate j m))
-      ∙ ap (λ (z : List ℕ). z ++ replicate j m) (append-assoc (replicate lead m) (take k (allSamples w m)) (x ∷ x ∷ x ∷ []) ∙ ap (λ (z : List ℕ). replicate lead m ++ z) (sym t))
+      let all = allSamples s w m in
+      let front = replicate lead m ++ take k all in
+      let j = n - lead - (k + s) in
+      let len : length front ≡ lead + k = length-append (replicate lead m) (take k all) ∙ omega (arith, length-replicate lead m, length-take-le k all (omega (arith, length-all s w m))) in
+      let room : n - lead - k ≡ s + j = omega arith in
+      let t : take (k + s) all ≡ take k all ++ replicate s x = take-add k s all ∙ rw (left-split s w m l i k e, take-at (replicate s x) _ s (length-replicate s x)) in
+      rw (take-at front _ (lead + k) len, drop-at front _ (lead + k) len, room, ← replicate-append-replicate s j m, drop-at (replicate s m) _ s (length-replicate s m), t)
+      (simp append-assoc)
 
-  pub after-end : after w lead m n 63 ≡ wordSamples 3 w lead m n
+  pub after-end : after s w lead m n (21 * s) ≡ wordSamples s w lead m n
   unfolding wordSamples wordLevels allSamples
   after-end =
-      ap (λ (l : List ℕ). (replicate lead m ++ l) ++ replicate (n - lead - 63) m) (take-all 63 (allSamples w m) (omega (arith, length-all w m)))
-      ∙ append-assoc (replicate lead m) (allSamples w m) (replicate (n - lead - 63) m)
+      let j = n - lead - 21 * s in
+      ap (λ (l : List ℕ). (replicate lead m ++ l) ++ replicate j m) (take-all (21 * s) (allSamples s w m) (omega (arith, length-all s w m)))
+      ∙ append-assoc (replicate lead m) (allSamples s w m) (replicate j m)
       ∙ sym
-      (map-join (levelSample m) (replicate lead true) (bitLevels 3 true 21 w ++ replicate (n - lead - 63) true)
-      ∙ ap (λ (l : List ℕ). l ++ map (levelSample m) (bitLevels 3 true 21 w ++ replicate (n - lead - 63) true)) (map-high m lead)
+      (map-join (levelSample m) (replicate lead true) (bitLevels s true 21 w ++ replicate j true)
+      ∙ ap (λ (l : List ℕ). l ++ map (levelSample m) (bitLevels s true 21 w ++ replicate j true)) (map-same (levelSample m) lead true)
       ∙ ap (λ (l : List ℕ). replicate lead m ++ l)
-      (map-join (levelSample m) (bitLevels 3 true 21 w) (replicate (n - lead - 63) true)
-      ∙ ap (λ (l : List ℕ). (allSamples w m) ++ l) (map-high m (n - lead - 63))))
+      (map-join (levelSample m) (bitLevels s true 21 w) (replicate j true)
+      ∙ ap (λ (l : List ℕ). allSamples s w m ++ l) (map-same (levelSample m) j true)))
 
 -- ---- the three answers
 

@@ -1,9 +1,12 @@
 // Added: a simulated ESC, which turns a period into a value and writes the capture that a reply of a value leaves in a buffer.
 
+use crate::MAX_REPLY_SAMPLES;
+use crate::REPLY_BITS;
+use crate::REPLY_SAMPLES_PER_BIT;
 use crate::reply_transitions_for;
 ghost use mathlib.Core.Path.{_≡_};
 ghost use Prim.Native.Nat.{_+_, _≤_};
-ghost use lib.ListN.{length, replicate, set};
+ghost use lib.ListN.{length, replicate};
 ghost use Rattle.dshot_reply_spec.specs.Answer.{refusalNumber};
 ghost use Rattle.dshot_reply_spec.specs.Simulate.{nextLevel, levelSample, wordSamples, simulated, left};
 ghost use Rattle.dshot_reply_spec.specs.Period.{periodValue};
@@ -57,28 +60,20 @@ fn fill(out: &mut [u16], value: u16)
     }
 }
 
-fn put_three(out: &mut [u16], at: usize, value: u16)
-    requires { ⌜ at + 3 ≤ length (now out) ⌝ }
-    ensures { λ r. ⌜ now (out .exit) ≡ set (set (set (now (out .entry)) at value) (at + 1) value) (at + 2) value ⌝ }
-{
-    out[at] = value;
-    out[at + 1] = value;
-    out[at + 2] = value;
-}
-
-// Writes the bits of a word into a buffer of high samples, three samples a bit.
+// Writes the bits of a word into a buffer of high samples, `REPLY_SAMPLES_PER_BIT` samples a bit.
 fn write_bits(out: &mut [u16], lead: usize, pin_mask: u16, word: u32)
     requires { ⌜ (lead + 63 ≤ length (now out)) × (now out ≡ replicate (length (now out)) «pin_mask») ⌝ }
     ensures { λ r. ⌜ now (out .exit) ≡ wordSamples 3 word lead «pin_mask» (length (now (out .entry))) ⌝ }
 {
     let mut level = true;
-    let mut left: u32 = 21;
+    let mut left: u32 = REPLY_BITS;
     let mut at = lead;
     while 0 < left {
         left -= 1;
         level = next_level(level, (word >> left) % 2);
-        put_three(out, at, level_sample(level, pin_mask));
-        at += 3;
+        let end = at + REPLY_SAMPLES_PER_BIT;
+        fill(&mut out[at..end], level_sample(level, pin_mask));
+        at = end;
     }
 }
 
@@ -89,14 +84,25 @@ pub enum Simulated {
     WrongLength,
 }
 
+// The number of a refusal in document 01, and 0 where the capture was written.
+pub fn simulated_number(answer: Simulated) -> u32
+    ensures { λ r. ⌜ r ≡ simulatedNumber answer ⌝ }
+{
+    match answer {
+        Simulated::Written => 0,
+        Simulated::NoMask => 12,
+        Simulated::WrongLength => 13,
+    }
+}
+
 // What a call with such a buffer, lead and mask answers: it needs room for the lead and two bits more than a reply, and a pin.
 fn answer_for(length: usize, lead: usize, pin_mask: u16) -> Simulated
     ensures { λ r. ⌜ simulatedNumber r ≡ simulatedRefusal length lead «pin_mask» ⌝ }
 {
-    if length < 69 {
+    if length < MAX_REPLY_SAMPLES {
         return Simulated::WrongLength;
     }
-    if length - 69 < lead {
+    if length - MAX_REPLY_SAMPLES < lead {
         return Simulated::WrongLength;
     }
     if pin_mask == 0 {

@@ -5,6 +5,7 @@ use dshot_reply::DshotReply;
 use dshot_reply::DshotReplyError;
 use dshot_reply::ReplyRead;
 use dshot_reply::Transitions;
+use dshot_reply::simulate;
 use dshot_reply::simulate::PeriodValue;
 use dshot_reply::simulate::Simulated;
 
@@ -110,9 +111,5 @@ pub(crate) fn of_period(answer: PeriodValue) -> Answer {
 }
 
 pub(crate) fn of_simulated(answer: Simulated) -> u64 {
-    match answer {
-        Simulated::Written => 0,
-        Simulated::NoMask => 12,
-        Simulated::WrongLength => 13,
-    }
+    wide32(simulate::simulated_number(answer))
 }

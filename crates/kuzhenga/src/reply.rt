@@ -191,14 +191,11 @@ pub extern "C" fn kuzhenga_simulate_reply(
     ensures { λ r. ⌜ r ≡ refusalNumber (simulated 3 (now (samples .entry)) (value % 4096) lead («pin_mask» % 65536)) ⌝ }
     ensures { λ r. ⌜ now (samples .exit) ≡ left (now (samples .entry)) (simulated 3 (now (samples .entry)) (value % 4096) lead («pin_mask» % 65536)) ⌝ }
 {
-    match simulate::simulate_reply(
+    let answer = simulate::simulate_reply(
         samples,
         (value % 4096) as u16,
         lead,
         (pin_mask % 65536) as u16,
-    ) {
-        Simulated::Written => 0,
-        Simulated::NoMask => 12,
-        Simulated::WrongLength => 13,
-    }
+    );
+    simulate::simulated_number(answer)
 }
