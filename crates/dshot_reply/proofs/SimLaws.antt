@@ -13,10 +13,10 @@ use Rattle.dshot_reply.specs.declared.simulate.Simulated.{Simulated}
 use Rattle.dshot_reply.specs.declared.simulate.Simulated.the-variants.{Written}
 use Rattle.dshot_reply_spec.proofs.Simulated.{simulated-written}
 use Rattle.dshot_reply_spec.proofs.SimulatedRenders.{length-bits}
-use Rattle.dshot_reply_spec.specs.Answer.{given, pick, refusalNumber, refused}
+use Rattle.dshot_reply_spec.specs.Answer.{filled, given, pick, refusalNumber, refused}
 use Rattle.dshot_reply_spec.specs.Gcr.{replyWord}
 use Rattle.dshot_reply_spec.specs.Move.{bit}
-use Rattle.dshot_reply_spec.specs.Simulate.{bitLevels, left, levelSample, nextLevel, simulated, wordLevels, wordSamples}
+use Rattle.dshot_reply_spec.specs.Simulate.{bitLevels, levelSample, nextLevel, simulated, wordLevels, wordSamples}
 use Rattle.dshot_reply.specs.Answers.{simulatedNumber}
 use Rattle.dshot_reply.specs.Steps.{simulatedRefusal}
 
@@ -103,7 +103,7 @@ module _ (s w lead m n : ℕ) (fits : lead + 21 * s ≤ n) where
 module _ (out : List ℕ) (v lead m : ℕ) where
   -- a call that answers so, and leaves a buffer so, does as the simulated ESC
   abbrev pub Answers : Simulated → List ℕ → Type 0
-  Answers r o = (simulatedNumber r ≡ refusalNumber (simulated 3 out v lead m)) × (o ≡ left out (simulated 3 out v lead m))
+  Answers r o = (simulatedNumber r ≡ refusalNumber (simulated 3 out v lead m)) × (o ≡ filled (λ l. l) out (simulated 3 out v lead m))
 
   -- a refusal has the number of the simulated ESC's, and leaves the buffer
   pub kept : (r : Simulated) → simulatedNumber r ≡ simulatedRefusal (length out) lead m → (simulatedNumber r ≡ 0 → ⊥) → Answers r out
@@ -112,7 +112,7 @@ module _ (out : List ℕ) (v lead m : ℕ) where
     where
       go : (b c : Bool) → simulatedNumber r ≡ pick b 13 (pick c 12 0)
           → (simulatedNumber r ≡ refusalNumber (pick b (refused 13) (pick c (refused 12) (given (wordSamples 3 (replyWord v) lead m (length out))))))
-          × (out ≡ left out (pick b (refused 13) (pick c (refused 12) (given (wordSamples 3 (replyWord v) lead m (length out))))))
+          × (out ≡ filled (λ l. l) out (pick b (refused 13) (pick c (refused 12) (given (wordSamples 3 (replyWord v) lead m (length out))))))
       go true c q = (q, refl)
       go false true q = (q, refl)
       go false false q = absurd (n q)

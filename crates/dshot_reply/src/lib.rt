@@ -42,7 +42,7 @@ pub const REPLY_WINDOW_SAMPLES: usize = 160;
 const MIN_REPLY_SAMPLES: usize = (REPLY_BITS as usize - 2) * REPLY_SAMPLES_PER_BIT;
 
 // How far after the start edge a reply is read: two bits past its end, so the edge back to idle closes its last bit.
-pub(crate) const MAX_REPLY_SAMPLES: usize = (REPLY_BITS as usize + 2) * REPLY_SAMPLES_PER_BIT;
+const MAX_REPLY_SAMPLES: usize = (REPLY_BITS as usize + 2) * REPLY_SAMPLES_PER_BIT;
 
 // Fewer bits than this between edges and no reply was seen. The last bits of a reply may carry no edge, so the remainder up to 21 is filled in.
 const MIN_EDGE_BITS: u32 = 18;

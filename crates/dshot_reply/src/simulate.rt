@@ -7,8 +7,8 @@ use crate::reply_transitions_for;
 ghost use mathlib.Core.Path.{_≡_};
 ghost use Prim.Native.Nat.{_+_, _≤_};
 ghost use lib.ListN.{length, replicate};
-ghost use Rattle.dshot_reply_spec.specs.Answer.{refusalNumber};
-ghost use Rattle.dshot_reply_spec.specs.Simulate.{nextLevel, levelSample, wordSamples, simulated, left};
+ghost use Rattle.dshot_reply_spec.specs.Answer.{refusalNumber, filled};
+ghost use Rattle.dshot_reply_spec.specs.Simulate.{nextLevel, levelSample, wordSamples, simulated};
 ghost use Rattle.dshot_reply_spec.specs.Period.{periodValue};
 ghost use Rattle.dshot_reply.specs.Answers.{simulatedNumber, periodAnswer};
 ghost use Rattle.dshot_reply.specs.Steps.{simulatedRefusal};
@@ -113,7 +113,7 @@ fn answer_for(length: usize, lead: usize, pin_mask: u16) -> Simulated
 
 // Writes the capture of an ESC's reply of `value`: `lead` high samples, the reply, and high to the end of the buffer.
 pub fn simulate_reply(out: &mut [u16], value: u16, lead: usize, pin_mask: u16) -> Simulated
-    ensures { λ r. ⌜ (simulatedNumber r ≡ refusalNumber (simulated 3 (now (out .entry)) value lead «pin_mask»)) × (now (out .exit) ≡ left (now (out .entry)) (simulated 3 (now (out .entry)) value lead «pin_mask»)) ⌝ }
+    ensures { λ r. ⌜ (simulatedNumber r ≡ refusalNumber (simulated 3 (now (out .entry)) value lead «pin_mask»)) × (now (out .exit) ≡ filled (λ l. l) (now (out .entry)) (simulated 3 (now (out .entry)) value lead «pin_mask»)) ⌝ }
 {
     match answer_for(out.len(), lead, pin_mask) {
         Simulated::Written => {

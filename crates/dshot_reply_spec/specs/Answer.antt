@@ -3,6 +3,7 @@
 use Prim.Native.Nat.{ℕ, _≤_}
 use mathlib.Core.Path.{_≡_}
 use mathlib.Core.Bool.{Bool, true, false}
+use mathlib.Core.List.{List}
 
 pub data Answer (A : Type 0) : Type 0 where
   given : A → Answer A
@@ -22,6 +23,11 @@ pick false a b = b
 abbrev pub refusalNumber : {A : Type 0} → Answer A → ℕ
 refusalNumber (given a) = 0
 refusalNumber (refused n) = n
+
+-- what a lent buffer holds after a call that answers so: what is made of what was given, or what it held before
+abbrev pub filled : {A : Type 0} → (A → List ℕ) → List ℕ → Answer A → List ℕ
+filled slots out (given a) = slots a
+filled slots out (refused n) = out
 
 -- ---- document 01's numbers of the refusals of a reply
 

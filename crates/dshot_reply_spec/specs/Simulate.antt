@@ -36,8 +36,3 @@ simulated s out v lead mask =
     pick (ltb (length out) (lead + 23 * s)) (refused 13)
     (pick (eqb mask 0) (refused 12)
     (given (wordSamples s (replyWord v) lead mask (length out))))
-
--- what a buffer holds after a call that answers so: a refusal leaves every slot as it was
-abbrev pub left : List ℕ → Answer (List ℕ) → List ℕ
-left out (given l) = l
-left out (refused n) = out

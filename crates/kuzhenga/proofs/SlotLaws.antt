@@ -7,8 +7,8 @@ use native.Mathlib.Omega.{arith}
 use lib.ListN.{length, drop-of-length-le}
 use lib.Seq.{sets, sets-eq}
 use borrow.Author.Tests.{eq-eqb, ne-eqb}
-use Rattle.dshot_reply_spec.specs.Answer.{Answer, given, refusalNumber}
-use Rattle.kuzhenga.specs.Slots.{asked, filled}
+use Rattle.dshot_reply_spec.specs.Answer.{Answer, given, refusalNumber, filled}
+use Rattle.kuzhenga.specs.Slots.{asked}
 
 -- every slot set, one after the other
 pub all-set : (out xs : List ℕ) → length out ≡ length xs → sets out 0 xs ≡ xs

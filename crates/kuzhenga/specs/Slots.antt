@@ -11,11 +11,6 @@ use Rattle.dshot_reply_spec.specs.Value.{Reading, erpm, temp, volt, amp, debug,
 unfoldable pub asked : {A : Type 0} → ℕ → List ℕ → Answer A → Answer A
 asked n out a = pick (eqb (length out) n) a (refused 13)
 
--- the slots after the call: filled with what was given, or as they were
-abbrev pub filled : {A : Type 0} → (A → List ℕ) → List ℕ → Answer A → List ℕ
-filled slots out (given a) = slots a
-filled slots out (refused n) = out
-
 -- a number of 16 bits in one slot
 abbrev pub one : ℕ → List ℕ
 one n = n ∷ []

@@ -12,15 +12,15 @@ ghost use mathlib.Core.Bool.{not};
 ghost use Prim.Native.Nat.{_+_, _%_, _≤_};
 ghost use lib.Dec.{eqb};
 ghost use lib.ListN.{length, set};
-ghost use Rattle.dshot_reply_spec.specs.Answer.{refusalNumber};
+ghost use Rattle.dshot_reply_spec.specs.Answer.{refusalNumber, filled};
 ghost use Rattle.dshot_reply_spec.specs.Gcr.{replyWord, decodeWord};
 ghost use Rattle.dshot_reply_spec.specs.Runs.{transitionsOf};
 ghost use Rattle.dshot_reply_spec.specs.Value.{replyOf};
 ghost use Rattle.dshot_reply_spec.specs.Reading.{sampledReply};
-ghost use Rattle.dshot_reply_spec.specs.Simulate.{simulated, left};
+ghost use Rattle.dshot_reply_spec.specs.Simulate.{simulated};
 ghost use Rattle.dshot_reply_spec.specs.Period.{periodValue};
 ghost use Rattle.dshot_reply.specs.Answers.{reading, replyAnswer};
-ghost use Rattle.kuzhenga.specs.Slots.{asked, filled, one, halves, readingSlots, kind, number};
+ghost use Rattle.kuzhenga.specs.Slots.{asked, one, halves, readingSlots, kind, number};
 
 // The reply word of `value` modulo 4096.
 #[no_mangle]
@@ -189,7 +189,7 @@ pub extern "C" fn kuzhenga_simulate_reply(
     pin_mask: u32,
 ) -> u32
     ensures { λ r. ⌜ r ≡ refusalNumber (simulated 3 (now (samples .entry)) (value % 4096) lead («pin_mask» % 65536)) ⌝ }
-    ensures { λ r. ⌜ now (samples .exit) ≡ left (now (samples .entry)) (simulated 3 (now (samples .entry)) (value % 4096) lead («pin_mask» % 65536)) ⌝ }
+    ensures { λ r. ⌜ now (samples .exit) ≡ filled (λ l. l) (now (samples .entry)) (simulated 3 (now (samples .entry)) (value % 4096) lead («pin_mask» % 65536)) ⌝ }
 {
     let answer = simulate::simulate_reply(
         samples,

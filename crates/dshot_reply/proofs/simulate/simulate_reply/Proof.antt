@@ -55,15 +55,15 @@ returns c =
 
 returns-2 : tie.Need-returns-2
 returns-2 c =
-    let a = c .before .before .before .before .args in
-    let told = c .enum-told2 .given .1 in
-    kept (a .out .now) (a .value) (a .lead) (a .pin-mask) NoMask (sym (ap simulatedNumber told) ∙ c .before .before .answer-for .ensures) (λ e. omega arith)
+    let no-mask = c .before .before in
+    let a = no-mask .before .before .args in
+    kept (a .out .now) (a .value) (a .lead) (a .pin-mask) NoMask (sym (ap simulatedNumber (c .enum-told2 .given .1)) ∙ no-mask .answer-for .ensures) (λ e. omega arith)
 
 returns-3 : tie.Need-returns-3
 returns-3 c =
-    let a = c .before .before .before .before .args in
-    let told = c .enum-told3 .given .1 in
-    kept (a .out .now) (a .value) (a .lead) (a .pin-mask) WrongLength (sym (ap simulatedNumber told) ∙ c .before .before .answer-for .ensures) (λ e. omega arith)
+    let wrong-length = c .before .before in
+    let a = wrong-length .before .before .args in
+    kept (a .out .now) (a .value) (a .lead) (a .pin-mask) WrongLength (sym (ap simulatedNumber (c .enum-told3 .given .1)) ∙ wrong-length .answer-for .ensures) (λ e. omega arith)
 
 pub simulate-reply-spec : {M : Type 1} → statement M
 simulate-reply-spec =
