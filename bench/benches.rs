@@ -1,8 +1,11 @@
 //! The benches: for either side, a pass over the same inputs.
 
-use crate::calls::{library_decode, library_reading, original_decode, original_reading};
+use crate::calls::{library_decode, library_reading};
+use crate::calls::{original_decode, original_decode_gcr, original_reading};
+use crate::exports::kuzhenga_decode_gcr;
 use crate::inputs::{self, MASK};
 use crate::{library, original};
+use dshot_reply::DshotReplyError;
 use std::hint::black_box;
 use std::rc::Rc;
 
@@ -59,13 +62,36 @@ fn decodings(name: &'static str, words: Vec<u32>) -> Bench {
     }
 }
 
-pub fn all() -> [Bench; 5] {
+/// A word a call, each side as it is offered to a caller. On both the value ends up in the caller's
+/// slot and the refusal in a number.
+fn single_decodings(name: &'static str, words: Vec<u32>) -> Bench {
+    let words: Rc<[u32]> = Rc::from(words);
+    let original = |word: &u32, slot: &mut [u16; 1]| match original_decode_gcr(*word) {
+        Ok(value) => {
+            slot[0] = value;
+            0
+        }
+        Err(DshotReplyError::InvalidSymbol) => 9,
+        Err(_) => 10,
+    };
+    let library = |word: &u32, slot: &mut [u16; 1]| unsafe {
+        kuzhenga_decode_gcr(*word, slot.as_mut_ptr(), 1)
+    };
+    Bench {
+        name,
+        calls: words.len(),
+        sides: [pass(&words, original), pass(&words, library)],
+    }
+}
+
+pub fn all() -> [Bench; 6] {
     [
         readings("exact reply, lead 10", inputs::exact_replies()),
         readings("jittered reply, lead 85", inputs::late_replies()),
         readings("window without a reply", inputs::windows_without_reply()),
         decodings("decode_gcr, reply words", inputs::words()),
         decodings("decode_gcr, half damaged", inputs::damaged_words()),
+        single_decodings("decode_gcr, a word a call", inputs::words()),
     ]
 }
 

@@ -42,3 +42,9 @@ pub fn original_decode(words: &[u32]) -> u32 {
 pub fn library_decode(words: &[u32]) -> u32 {
     unsafe { bench_decode_gcr(words.as_ptr(), words.len()) }
 }
+
+/// One word, as the source offers it: the answer is the function's result.
+#[inline(never)]
+pub fn original_decode_gcr(word: u32) -> Result<u16, DshotReplyError> {
+    dshot_reply::decode_gcr(word)
+}

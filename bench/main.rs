@@ -77,7 +77,7 @@ fn table() -> ExitCode {
 fn row(name: &str, ns: [f64; 2], instructions: [f64; 2]) {
     let ratio = |[original, library]: [f64; 2]| library / original;
     println!(
-        "{name:31}{:10.1}{:10.1}{:7.2}{:11.1}{:10.1}{:7.2}",
+        "{name:33}{:8.1}{:10.1}{:7.2}{:11.1}{:10.1}{:7.2}",
         ns[0],
         ns[1],
         ratio(ns),
