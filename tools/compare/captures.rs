@@ -5,7 +5,7 @@ use crate::random::Random;
 /// Samples that a reply bit lasts.
 pub const BIT: usize = 3;
 
-/// Samples that a start needs from itself on, and those of them that are read at most.
+/// Samples that a start needs from itself on, and how many are read from there on at most.
 pub const ROOM: usize = 19 * BIT;
 pub const READ: usize = 23 * BIT;
 
@@ -53,7 +53,7 @@ pub fn levels(lead: usize, times: &[usize], ending: Ending, length: usize) -> Ve
     levels
 }
 
-/// High is the mask, low is 0.
+/// A high sample has all pins of the mask, a low one none.
 pub fn clean(levels: &[bool], mask: u16) -> Vec<u16> {
     let sample = |&level: &bool| if level { mask } else { 0 };
     levels.iter().map(sample).collect()

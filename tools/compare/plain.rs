@@ -5,7 +5,7 @@ use crate::answer::{Answer, UNTOUCHED};
 use crate::captures::{clean, exact, levels, Ending, READ};
 use crate::original;
 
-/// The value of a period: the smallest exponent that leaves at most 511, shifted-out bits dropped.
+/// The value of a period: its smallest exponent for which nine bits hold what is left.
 pub fn period_value(period: u32) -> Answer {
     if period == 0 || period > 65535 {
         return Answer::refused(16);

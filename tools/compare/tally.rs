@@ -3,7 +3,7 @@
 
 const SHOWN: usize = 3;
 
-/// Room for document 01's refusals, which the answers are counted by; 0 is done.
+/// Room for document 01's refusals up to 17, which the answers are counted by; 0 is done.
 const NUMBERS: usize = 18;
 
 pub struct Tally {

@@ -3,7 +3,7 @@
 use mathlib.Core.Path.{_≡_, sym, refl, ap, _∙_}
 use mathlib.Core.Bool.{Bool, true, false}
 use mathlib.Core.List.{List, [], _∷_, _++_, map, append-assoc, append-nil}
-use Prim.Native.Nat.{ℕ, zero, suc, _+_, _-_, _*_, _≤_}
+use Prim.Native.Nat.{ℕ, zero, suc, _+_, _-_, _*_, _≤_, _<_}
 use native.Mathlib.Omega.{arith}
 use lib.ListN.{length, take, drop, replicate, length-append, length-replicate, length-map, replicate-append-replicate}
 use lib.Seq.{take-add, take-at, drop-at, drop-drop, length-take-le, take-all}
@@ -13,7 +13,7 @@ use Rattle.dshot_reply.specs.declared.simulate.Simulated.{Simulated}
 use Rattle.dshot_reply.specs.declared.simulate.Simulated.the-variants.{Written}
 use Rattle.dshot_reply_spec.proofs.Simulated.{simulated-written}
 use Rattle.dshot_reply_spec.proofs.SimulatedRenders.{length-bits}
-use Rattle.dshot_reply_spec.specs.Answer.{filled, given, pick, refusalNumber, refused}
+use Rattle.dshot_reply_spec.specs.Answer.{filled, given, noMask, pick, refusalNumber, refused, wrongLength}
 use Rattle.dshot_reply_spec.specs.Gcr.{replyWord}
 use Rattle.dshot_reply_spec.specs.Move.{bit}
 use Rattle.dshot_reply_spec.specs.Simulate.{bitLevels, levelSample, nextLevel, simulated, wordLevels, wordSamples}
@@ -100,32 +100,32 @@ module _ (s w lead m n : ℕ) (fits : lead + 21 * s ≤ n) where
 
 -- ---- the three answers
 
-module _ (out : List ℕ) (v lead m : ℕ) where
+module _ (s : ℕ) (out : List ℕ) (v lead m : ℕ) where
   -- a call that answers so, and leaves a buffer so, does as the simulated ESC
   abbrev pub Answers : Simulated → List ℕ → Type 0
-  Answers r o = (simulatedNumber r ≡ refusalNumber (simulated 3 out v lead m)) × (o ≡ filled (λ l. l) out (simulated 3 out v lead m))
+  Answers r o = (simulatedNumber r ≡ refusalNumber (simulated s out v lead m)) × (o ≡ filled (λ l. l) out (simulated s out v lead m))
 
   -- a refusal has the number of the simulated ESC's, and leaves the buffer
-  pub kept : (r : Simulated) → simulatedNumber r ≡ simulatedRefusal (length out) lead m → (simulatedNumber r ≡ 0 → ⊥) → Answers r out
+  pub kept : (r : Simulated) → simulatedNumber r ≡ simulatedRefusal s (length out) lead m → (simulatedNumber r ≡ 0 → ⊥) → Answers r out
   unfolding simulatedRefusal simulated
-  kept r e n = go (ltb (length out) (lead + 69)) (eqb m 0) e
+  kept r e n = go (ltb (length out) (lead + 23 * s)) (eqb m 0) e
     where
-      go : (b c : Bool) → simulatedNumber r ≡ pick b 13 (pick c 12 0)
-          → (simulatedNumber r ≡ refusalNumber (pick b (refused 13) (pick c (refused 12) (given (wordSamples 3 (replyWord v) lead m (length out))))))
-          × (out ≡ filled (λ l. l) out (pick b (refused 13) (pick c (refused 12) (given (wordSamples 3 (replyWord v) lead m (length out))))))
+      go : (b c : Bool) → simulatedNumber r ≡ pick b wrongLength (pick c noMask 0)
+          → (simulatedNumber r ≡ refusalNumber (pick b (refused wrongLength) (pick c (refused noMask) (given (wordSamples s (replyWord v) lead m (length out))))))
+          × (out ≡ filled (λ l. l) out (pick b (refused wrongLength) (pick c (refused noMask) (given (wordSamples s (replyWord v) lead m (length out))))))
       go true c q = (q, refl)
       go false true q = (q, refl)
       go false false q = absurd (n q)
 
   -- an answer of 0 has room and a mask
-  pub accepted : (k : ℕ) → k ≡ simulatedRefusal (length out) lead m → k ≡ 0 → (lead + 69 ≤ length out) × (m ≡ 0 → ⊥)
+  pub accepted : (k : ℕ) → k ≡ simulatedRefusal s (length out) lead m → k ≡ 0 → (lead + 23 * s ≤ length out) × (m ≡ 0 → ⊥)
   unfolding simulatedRefusal
-  accepted k e z = go (ltb (length out) (lead + 69)) refl (eqb m 0) refl (sym z ∙ e)
+  accepted k e z = go (ltb (length out) (lead + 23 * s)) refl (eqb m 0) refl (sym z ∙ e)
     where
-      go : (b : Bool) → ltb (length out) (lead + 69) ≡ b → (c : Bool) → eqb m 0 ≡ c → _≡_ {A = ℕ} 0 (pick b 13 (pick c 12 0)) → (lead + 69 ≤ length out) × (m ≡ 0 → ⊥)
+      go : (b : Bool) → ltb (length out) (lead + 23 * s) ≡ b → (c : Bool) → eqb m 0 ≡ c → _≡_ {A = ℕ} 0 (pick b wrongLength (pick c noMask 0)) → (lead + 23 * s ≤ length out) × (m ≡ 0 → ⊥)
       go true p c q z = absurd (omega arith)
       go false p true q z = absurd (omega arith)
-      go false p false q z = (ltb-false (length out) (lead + 69) p, eqb-false m 0 q)
+      go false p false q z = (ltb-false (length out) (lead + 23 * s) p, eqb-false m 0 q)
 
-  pub all-written : lead + 69 ≤ length out → (m ≡ 0 → ⊥) → Answers Written (wordSamples 3 (replyWord v) lead m (length out))
-  all-written h n = (rw (simulated-written 3 (omega arith) out v lead m h n), rw (simulated-written 3 (omega arith) out v lead m h n))
+  pub all-written : 0 < s → lead + 23 * s ≤ length out → (m ≡ 0 → ⊥) → Answers Written (wordSamples s (replyWord v) lead m (length out))
+  all-written pos h n = (rw (simulated-written s pos out v lead m h n), rw (simulated-written s pos out v lead m h n))

@@ -1,7 +1,7 @@
 -- The answers of the source's enums, and of those added, in document 01's numbers and values.
 -- Assumes nothing.
 use Prim.Native.Nat.{ℕ}
-use Rattle.dshot_reply_spec.specs.Answer.{Answer, given, refused, noReply, overlong, invalidSymbol, wrongChecksum, zeroPeriod}
+use Rattle.dshot_reply_spec.specs.Answer.{Answer, given, refused, noReply, overlong, invalidSymbol, wrongChecksum, zeroPeriod, noMask, wrongLength, periodOutOfRange}
 use Rattle.dshot_reply_spec.specs.Value.{Reading, erpm, temp, volt, amp, debug, state, edt}
 use Rattle.dshot_reply.specs.declared.DshotReplyError.{DshotReplyError}
 use Rattle.dshot_reply.specs.declared.DshotReplyError.the-variants.{NoReply, Overlong, InvalidSymbol, Checksum, ZeroPeriod}
@@ -26,10 +26,12 @@ errorNumber InvalidSymbol = invalidSymbol
 errorNumber Checksum = wrongChecksum
 errorNumber ZeroPeriod = zeroPeriod
 
+-- the transition bits of a capture
 abbrev pub transitionsAnswer : Transitions → Answer ℕ
 transitionsAnswer (Bits.Word w) = given w
 transitionsAnswer (Bits.Refused e) = refused (errorNumber e)
 
+-- the value of transition bits
 abbrev pub decodedAnswer : Decoded → Answer ℕ
 decodedAnswer (Code.Value v) = given v
 decodedAnswer (Code.Refused e) = refused (errorNumber e)
@@ -44,16 +46,18 @@ reading (Debug channel n) = debug channel n
 reading (StateEvent n) = state n
 reading ExtendedTelemetryEnabled = edt
 
+-- the reading of a value or a capture
 abbrev pub replyAnswer : ReplyRead → Answer Reading
 replyAnswer (Read.Reply r) = given (reading r)
 replyAnswer (Read.Refused e) = refused (errorNumber e)
 
+-- the value of a period
 abbrev pub periodAnswer : PeriodValue → Answer ℕ
 periodAnswer (Period.Value v) = given v
-periodAnswer Period.OutOfRange = refused 16
+periodAnswer Period.OutOfRange = refused periodOutOfRange
 
 -- the number of a refused capture, and 0 for a written one
 abbrev pub simulatedNumber : Simulated → ℕ
 simulatedNumber Written = 0
-simulatedNumber NoMask = 12
-simulatedNumber WrongLength = 13
+simulatedNumber NoMask = noMask
+simulatedNumber WrongLength = wrongLength

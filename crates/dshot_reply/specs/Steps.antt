@@ -6,7 +6,7 @@ use mathlib.Core.Bool.{Bool, Bool·beq}
 use mathlib.Core.List.{List, [], _∷_}
 use lib.Dec.{eqb, ltb}
 use lib.ListN.{getD}
-use Rattle.dshot_reply_spec.specs.Answer.{Answer, given, refused, pick, noReply}
+use Rattle.dshot_reply_spec.specs.Answer.{Answer, given, refused, pick, noReply, noMask, wrongLength}
 use Rattle.dshot_reply_spec.specs.Gcr.{symbolOf, nibbleOf}
 
 -- a table has the symbol of each nibble
@@ -26,6 +26,6 @@ sameFor l (b ∷ bs) = pick (Bool·beq b l) (suc (sameFor l bs)) 0
 unfoldable pub closed : ℕ → ℕ → Answer ℕ
 closed bits w = pick (ltb bits 18) (refused noReply) (pick (ltb bits 21) (given (w * 2 ^ (21 - bits) + 2 ^ (21 - bits - 1))) (given w))
 
--- the number with which the simulated ESC refuses a buffer of n samples, a lead and a mask, or 0
-unfoldable pub simulatedRefusal : ℕ → ℕ → ℕ → ℕ
-simulatedRefusal n lead mask = pick (ltb n (lead + 69)) 13 (pick (eqb mask 0) 12 0)
+-- the number with which the simulated ESC, at s samples a bit, refuses a buffer of n samples, a lead and a mask, or 0
+unfoldable pub simulatedRefusal : ℕ → ℕ → ℕ → ℕ → ℕ
+simulatedRefusal s n lead mask = pick (ltb n (lead + 23 * s)) wrongLength (pick (eqb mask 0) noMask 0)

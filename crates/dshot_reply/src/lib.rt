@@ -214,7 +214,7 @@ fn push_run(transitions: u32, run: u32) -> u32
     (transitions << run) | (1 << (run - 1))
 }
 
-// The bits that are missing to a whole reply as one last run.
+// The answer at the end of reading: no reply where too few bits were seen, else the missing bits as one last run.
 fn close(bits: u32, transitions: u32) -> Transitions
     requires { ⌜ (bits ≤ 21) × (transitions < 2 ^ bits) ⌝ }
     ensures { λ r. ⌜ transitionsAnswer r ≡ closed bits transitions ⌝ }

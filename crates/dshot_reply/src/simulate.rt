@@ -19,7 +19,7 @@ pub enum PeriodValue {
     OutOfRange,
 }
 
-// The value of a period of 1 to 65535 us: the smallest exponent that leaves at most 511, shifted-out bits dropped.
+// The value of a period of 1 to 65535 us: halved until nine bits hold it, with the number of halvings as its exponent.
 pub fn period_value(period_us: u32) -> PeriodValue
     ensures { λ r. ⌜ periodAnswer r ≡ periodValue «period_us» ⌝ }
 {
@@ -97,7 +97,7 @@ pub fn simulated_number(answer: Simulated) -> u32
 
 // What a call with such a buffer, lead and mask answers: it needs room for the lead and two bits more than a reply, and a pin.
 fn answer_for(length: usize, lead: usize, pin_mask: u16) -> Simulated
-    ensures { λ r. ⌜ simulatedNumber r ≡ simulatedRefusal length lead «pin_mask» ⌝ }
+    ensures { λ r. ⌜ simulatedNumber r ≡ simulatedRefusal 3 length lead «pin_mask» ⌝ }
 {
     if length < MAX_REPLY_SAMPLES {
         return Simulated::WrongLength;

@@ -29,9 +29,6 @@ symbol-of-low w q p h =
 
 -- 2 ^ i at the bits from k on is taken away, and 2 ^ j put there
 module _ (w w′ k i j : ℕ) (moved : w′ + 2 ^ (k + i) ≡ w + 2 ^ (k + j)) (there : 2 ^ i ≤ w / 2 ^ k) where
-  B : ℕ
-  B = 2 ^ k
-
   whole : w′ ≡ (w / 2 ^ k + 2 ^ j - 2 ^ i) * 2 ^ k + w % 2 ^ k
   whole =
       let u = w / 2 ^ k in

@@ -1,4 +1,4 @@
--- The exclusive or of nibbles, by tests that antt computes.
+-- The exclusive or of nibbles, by tests that the prover computes.
 -- Assumes nothing.
 use mathlib.Core.Path.{_≡_, sym, ap, _∙_}
 use mathlib.Core.Bool.{Bool}

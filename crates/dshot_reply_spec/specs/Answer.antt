@@ -29,7 +29,7 @@ abbrev pub filled : {A : Type 0} → (A → List ℕ) → List ℕ → Answer A 
 filled slots out (given a) = slots a
 filled slots out (refused n) = out
 
--- ---- document 01's numbers of the refusals of a reply
+-- ---- document 01's numbers of the refusals
 
 abbrev pub noReply : ℕ
 noReply = 7
@@ -45,6 +45,15 @@ wrongChecksum = 10
 
 abbrev pub zeroPeriod : ℕ
 zeroPeriod = 11
+
+abbrev pub noMask : ℕ
+noMask = 12
+
+abbrev pub wrongLength : ℕ
+wrongLength = 13
+
+abbrev pub periodOutOfRange : ℕ
+periodOutOfRange = 16
 
 -- refused, as a damaged capture is: with one of 7 to 10
 pub record Rejected {A : Type 0} (a : Answer A) : Type 0 where

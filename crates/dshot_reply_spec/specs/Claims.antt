@@ -1,4 +1,4 @@
--- What demand 3 claims of an answer to a capture whose word has one moved edge: document 01's "taken exactly".
+-- What demand 3 claims of the answer to a capture whose word has one moved edge: when it is taken, and that it is taken in no other case.
 -- Assumes nothing.
 use Prim.Native.Nat.{ℕ}
 use mathlib.Core.Path.{_≡_}

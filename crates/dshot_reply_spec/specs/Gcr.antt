@@ -14,6 +14,7 @@ use Rattle.dshot_reply_spec.specs.Answer.{Answer, given, refused, pick, 
 abbrev pub symbols : List ℕ
 symbols = 0x19 ∷ 0x1b ∷ 0x12 ∷ 0x13 ∷ 0x1d ∷ 0x15 ∷ 0x16 ∷ 0x17 ∷ 0x1a ∷ 0x09 ∷ 0x0a ∷ 0x0b ∷ 0x1e ∷ 0x0d ∷ 0x0e ∷ 0x0f ∷ []
 
+-- the symbol of one nibble
 abbrev pub symbolOf : ℕ → ℕ
 symbolOf n = getD symbols n 0
 
@@ -43,6 +44,7 @@ replyNibble v (suc (suc (suc p))) = v / 256 % 16
 unfoldable pub wordOf : ℕ → ℕ → ℕ → ℕ → ℕ
 wordOf a b c d = (((32 + a) * 32 + b) * 32 + c) * 32 + d
 
+-- the word that a reply of a value is sent as; only the value's lowest twelve bits count
 unfoldable pub replyWord : ℕ → ℕ
 replyWord v = wordOf (symbolOf (replyNibble v 3)) (symbolOf (replyNibble v 2)) (symbolOf (replyNibble v 1)) (symbolOf (replyNibble v 0))
 
@@ -56,7 +58,7 @@ symbolAt w p = w / 2 ^ (5 * p) % 32
 abbrev pub nibbleAt : ℕ → ℕ → ℕ
 nibbleAt w p = nibbleOf (symbolAt w p)
 
--- what four nibbles, the highest first, or 255 for a bad symbol, give: a bad symbol outranks a wrong checksum
+-- what four nibbles, the highest first, or 255 for a bad symbol, give: a bad symbol is found before a wrong checksum
 unfoldable pub fromNibbles : ℕ → ℕ → ℕ → ℕ → Answer ℕ
 fromNibbles a b c d =
     pick (eqb a 255) (refused invalidSymbol)
@@ -65,5 +67,6 @@ fromNibbles a b c d =
     (pick (eqb d 255) (refused invalidSymbol)
     (pick (eqb (bitXor (bitXor (bitXor a b) c) d) 15) (given (a * 256 + b * 16 + c)) (refused wrongChecksum)))))
 
+-- the value of a word; only its lowest twenty bits count
 unfoldable pub decodeWord : ℕ → Answer ℕ
 decodeWord w = fromNibbles (nibbleAt w 3) (nibbleAt w 2) (nibbleAt w 1) (nibbleAt w 0)

@@ -6,6 +6,7 @@ use mathlib.Core.Logic.{_⊎_}
 use mathlib.Core.List.{List, [], _∷_, List·Memᴰ}
 use Rattle.dshot_reply_spec.specs.Gcr.{replyNibble, replyWord, nibbleAt}
 
+-- bit i of a word, the lowest at 0
 abbrev pub bit : ℕ → ℕ → ℕ
 bit w i = w / 2 ^ i % 2
 

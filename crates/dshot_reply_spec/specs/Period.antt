@@ -3,18 +3,18 @@
 use Prim.Native.Nat.{ℕ, zero, suc, _+_, _*_, _/_, _^_, _≤_, _<_}
 use mathlib.Core.Path.{_≡_}
 use lib.Dec.{eqb, leb, ltb}
-use Rattle.dshot_reply_spec.specs.Answer.{Answer, given, refused, pick}
+use Rattle.dshot_reply_spec.specs.Answer.{Answer, given, refused, pick, periodOutOfRange}
 
 -- the period halved, rounding down, until at most 511 is left: the number of times, and what is left, as one number. More than `most` times is not needed
 unfoldable pub scaled : ℕ → ℕ → ℕ → ℕ
 scaled zero e p = e * 512 + p
 scaled (suc most) e p = pick (leb p 511) (e * 512 + p) (scaled most (e + 1) (p / 2))
 
--- a period of 1 to 65535 microseconds, else 16
+-- a period of 1 to 65535 microseconds has a value
 unfoldable pub periodValue : ℕ → Answer ℕ
-periodValue p = pick (eqb p 0) (refused 16) (pick (ltb 65535 p) (refused 16) (given (scaled 7 0 p)))
+periodValue p = pick (eqb p 0) (refused periodOutOfRange) (pick (ltb 65535 p) (refused periodOutOfRange) (given (scaled 7 0 p)))
 
--- document 01's words for it: the smallest exponent that leaves at most 511, shifted-out bits dropped
+-- document 01's description: the value has the smallest exponent for which what is left of the period fits its nine bits
 pub record SmallestExponent (p v : ℕ) : Type 0 where
   pub exponent : ℕ
   pub small : exponent ≤ 7

@@ -8,7 +8,7 @@ use lib.ListN.{length, take, replicate}
 use Rattle.dshot_reply_spec.specs.Gcr.{symbolAt}
 use Rattle.dshot_reply_spec.specs.Runs.{sum, runsWord}
 
--- n samples last k bits: at s samples a bit they are at most (s - 1) / 2 off
+-- n samples last k bits: at s samples a bit they are at most (s - 1) / 2 off, so that they are 3k - 1 to 3k + 1 at 3
 abbrev pub Lasts : ℕ → ℕ → ℕ → Type 0
 Lasts s k n = (0 < k) × (s * k ≤ n + (s - 1) / 2) × (n ≤ s * k + (s - 1) / 2)
 
@@ -20,8 +20,8 @@ pub data RenderedRuns (s : ℕ) : Bool → List ℕ → List Bool → Type 0 whe
   open-end : (l : Bool) (k n : ℕ) → 0 < k → 0 < n → RenderedRuns s l (k ∷ []) (replicate n l)
   closed-low : (k n m : ℕ) → Lasts s k n → 0 < m → RenderedRuns s false (k ∷ []) (replicate n false ++ replicate m true)
 
--- a capture's levels render the 21 bits of the word w: high before the start, 19 bits of samples from there on, and the runs of w in the
--- 23 bits of samples that are read at most
+-- a capture's levels render the 21 bits of the word w: high before the start, 19 bits of samples from there on (57 at 3 a bit), and the runs of
+-- w in the 23 bits of samples that are read at most (69 at 3)
 pub record Renders (s : ℕ) (ls : List Bool) (w : ℕ) : Type 0 where
   pub lead : ℕ
   pub after : List Bool

@@ -10,10 +10,11 @@ use lib.Bits.{bitAnd}
 use lib.ListN.{length, take, drop}
 use Rattle.dshot_reply_spec.specs.Answer.{Answer, given, refused, pick, noReply, overlong}
 
--- a sample is high if it has a bit in common with the mask
+-- a sample is high if any pin of the mask is set in it
 abbrev pub high : ℕ → ℕ → Bool
 high mask sample = not (eqb (bitAnd sample mask) 0)
 
+-- the level of each sample
 abbrev pub levels : ℕ → List ℕ → List Bool
 levels mask samples = map (high mask) samples
 
@@ -56,7 +57,7 @@ assemble ks = pick (ltb 21 (sum ks)) (refused overlong) (pick (ltb (sum ks) 18) 
 abbrev pub runsOf : ℕ → List Bool → List ℕ
 runsOf s ls = map (runBits s) (finished false 0 ls)
 
--- the start is the first low sample, with 19 bits of samples from there on; at most 23 bits of samples are read
+-- the start is the first low sample, with 19 bits of samples from there on (57 at 3 a bit); at most 23 bits of samples are read (69 at 3)
 unfoldable pub fromLevels : ℕ → List Bool → Answer ℕ
 fromLevels s ls = pick (leb (19 * s) (length ls - firstLow ls)) (assemble (runsOf s (take (23 * s) (drop (firstLow ls) ls)))) (refused noReply)
 

@@ -5,7 +5,7 @@ use mathlib.Core.Bool.{Bool, true, not}
 use mathlib.Core.List.{List, [], _++_, map}
 use lib.Dec.{eqb, ltb}
 use lib.ListN.{length, replicate}
-use Rattle.dshot_reply_spec.specs.Answer.{Answer, given, refused, pick}
+use Rattle.dshot_reply_spec.specs.Answer.{Answer, given, refused, pick, noMask, wrongLength}
 use Rattle.dshot_reply_spec.specs.Gcr.{replyWord}
 use Rattle.dshot_reply_spec.specs.Move.{bit}
 
@@ -22,7 +22,7 @@ bitLevels s l (suc i) w = replicate s (nextLevel l (bit w i)) ++ bitLevels s (ne
 unfoldable pub wordLevels : ℕ → ℕ → ℕ → ℕ → List Bool
 wordLevels s w lead m = replicate lead true ++ (bitLevels s true 21 w ++ replicate m true)
 
--- high is the mask, low is 0
+-- a high sample has all pins of the mask, a low one none
 abbrev pub levelSample : ℕ → Bool → ℕ
 levelSample mask l = pick l mask 0
 
@@ -30,9 +30,9 @@ levelSample mask l = pick l mask 0
 unfoldable pub wordSamples : ℕ → ℕ → ℕ → ℕ → ℕ → List ℕ
 wordSamples s w lead mask n = map (levelSample mask) (wordLevels s w lead (n - lead - 21 * s))
 
--- the whole buffer `out` with the capture of a value in it: 13 where it does not hold the lead and 23 bits of samples, and then 12 for mask 0
+-- the whole buffer `out` with the capture of a value in it, if it holds the lead and 23 bits of samples, and then if the mask has a pin
 unfoldable pub simulated : ℕ → List ℕ → ℕ → ℕ → ℕ → Answer (List ℕ)
 simulated s out v lead mask =
-    pick (ltb (length out) (lead + 23 * s)) (refused 13)
-    (pick (eqb mask 0) (refused 12)
+    pick (ltb (length out) (lead + 23 * s)) (refused wrongLength)
+    (pick (eqb mask 0) (refused noMask)
     (given (wordSamples s (replyWord v) lead mask (length out))))

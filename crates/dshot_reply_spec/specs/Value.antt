@@ -8,7 +8,7 @@ use mathlib.Core.Bool.{Bool, not, _&&_, _||_}
 use lib.Dec.{eqb}
 use Rattle.dshot_reply_spec.specs.Answer.{Answer, given, refused, pick, zeroPeriod}
 
--- the kinds of reading, by the words that the bench's line has for them, each with its number
+-- the kinds of reading, by the words that the bench's line has for them, with the number read; `debug` has its channel first
 pub data Reading : Type 0 where
   erpm : ℕ → Reading
   temp : ℕ → Reading
@@ -28,12 +28,12 @@ speedValue v = pick (eqb v 0xfff) (given (erpm 0)) (speedOf (v % 512 * 2 ^ (v / 
 
 -- a typed reading, by half its type nibble
 unfoldable pub readingOf : ℕ → ℕ → Reading
-readingOf kind d =
-    pick (eqb kind 1) (temp d)
-    (pick (eqb kind 2) (volt d)
-    (pick (eqb kind 3) (amp d)
-    (pick (eqb kind 7) (state d)
-    (debug (kind - 3) d))))
+readingOf half d =
+    pick (eqb half 1) (temp d)
+    (pick (eqb half 2) (volt d)
+    (pick (eqb half 3) (amp d)
+    (pick (eqb half 7) (state d)
+    (debug (half - 3) d))))
 
 -- 0xE00 with EDT off is the acknowledgement; with EDT off, or a type nibble that is odd or 0, a value is a speed
 unfoldable pub replyOf : ℕ → Bool → Answer Reading

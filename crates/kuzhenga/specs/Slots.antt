@@ -4,12 +4,12 @@ use Prim.Native.Nat.{ℕ, _+_, _/_, _%_}
 use mathlib.Core.List.{List, [], _∷_}
 use lib.Dec.{eqb}
 use lib.ListN.{length}
-use Rattle.dshot_reply_spec.specs.Answer.{Answer, given, refused, pick}
+use Rattle.dshot_reply_spec.specs.Answer.{Answer, pick, refused, wrongLength}
 use Rattle.dshot_reply_spec.specs.Value.{Reading, erpm, temp, volt, amp, debug, state, edt}
 
 -- the answer of a call that asks for n slots: 13, before all else, where it is lent another number of them
 unfoldable pub asked : {A : Type 0} → ℕ → List ℕ → Answer A → Answer A
-asked n out a = pick (eqb (length out) n) a (refused 13)
+asked n out a = pick (eqb (length out) n) a (refused wrongLength)
 
 -- a number of 16 bits in one slot
 abbrev pub one : ℕ → List ℕ
@@ -29,6 +29,7 @@ kind (debug channel n) = 3 + channel
 kind (state n) = 7
 kind edt = 8
 
+-- the number that a reading carries; the acknowledgement carries none
 abbrev pub number : Reading → ℕ
 number (erpm n) = n
 number (temp n) = n

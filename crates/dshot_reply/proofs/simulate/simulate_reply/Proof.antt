@@ -28,7 +28,7 @@ write-bits-requires c κs =
     let f = c .before .before .before .before .fill in
     let a = c .before .before .before .before .before .before .before .before .before .before .args in
     let told = c .before .before .before .before .before .before .enum-told .given .1 in
-    let room = accepted (a .out .now) (a .value) (a .lead) (a .pin-mask) (simulatedNumber (c .before .before .before .before .before .before .before .before .answer-for .result)) (c .before .before .before .before .before .before .before .before .answer-for .ensures) (ap simulatedNumber told) in
+    let room = accepted 3 (a .out .now) (a .value) (a .lead) (a .pin-mask) (simulatedNumber (c .before .before .before .before .before .before .before .before .answer-for .result)) (c .before .before .before .before .before .before .before .before .answer-for .ensures) (ap simulatedNumber told) in
     let same : length (f .last .0) ≡ length (a .out .now) = f .kept .0 in
     (omega (arith, same, room .0), cc)
 
@@ -48,22 +48,22 @@ returns c =
     let b = c .before .before .write-bits in
     let a = c .before .before .before .before .before .before .before .before .before .before .before .before .before .args in
     let told = c .before .before .before .before .before .before .before .before .before .enum-told .given .1 in
-    let room = accepted (a .out .now) (a .value) (a .lead) (a .pin-mask) (simulatedNumber (c .before .before .before .before .before .before .before .before .before .before .before .answer-for .result)) (c .before .before .before .before .before .before .before .before .before .before .before .answer-for .ensures) (ap simulatedNumber told) in
+    let room = accepted 3 (a .out .now) (a .value) (a .lead) (a .pin-mask) (simulatedNumber (c .before .before .before .before .before .before .before .before .before .before .before .answer-for .result)) (c .before .before .before .before .before .before .before .before .before .before .before .answer-for .ensures) (ap simulatedNumber told) in
     let same : length (f .last .0) ≡ length (a .out .now) = f .kept .0 in
-    let t = all-written (a .out .now) (a .value) (a .lead) (a .pin-mask) (room .0) (room .1) in
+    let t = all-written 3 (a .out .now) (a .value) (a .lead) (a .pin-mask) (omega arith) (room .0) (room .1) in
     (t .0, cc (b .ensures, w .ensures, same, t .1))
 
 returns-2 : tie.Need-returns-2
 returns-2 c =
     let no-mask = c .before .before in
     let a = no-mask .before .before .args in
-    kept (a .out .now) (a .value) (a .lead) (a .pin-mask) NoMask (sym (ap simulatedNumber (c .enum-told2 .given .1)) ∙ no-mask .answer-for .ensures) (λ e. omega arith)
+    kept 3 (a .out .now) (a .value) (a .lead) (a .pin-mask) NoMask (sym (ap simulatedNumber (c .enum-told2 .given .1)) ∙ no-mask .answer-for .ensures) (λ e. omega arith)
 
 returns-3 : tie.Need-returns-3
 returns-3 c =
     let wrong-length = c .before .before in
     let a = wrong-length .before .before .args in
-    kept (a .out .now) (a .value) (a .lead) (a .pin-mask) WrongLength (sym (ap simulatedNumber (c .enum-told3 .given .1)) ∙ wrong-length .answer-for .ensures) (λ e. omega arith)
+    kept 3 (a .out .now) (a .value) (a .lead) (a .pin-mask) WrongLength (sym (ap simulatedNumber (c .enum-told3 .given .1)) ∙ wrong-length .answer-for .ensures) (λ e. omega arith)
 
 pub simulate-reply-spec : {M : Type 1} → statement M
 simulate-reply-spec =
