@@ -9,7 +9,7 @@ use native.Mathlib.Omega.{arith}
 use lib.Bits.{bitXor}
 use lib.Dec.{eqb}
 use borrow.Author.Tests.{eq-eqb}
-use Rattle.dshot_reply_spec.proofs.Damage.{equal-or-not}
+use Rattle.dshot_reply_spec.proofs.Cases.{equal-or-not}
 use Rattle.dshot_reply_spec.proofs.Decode.{bad, symbol-small, taken, unequal}
 use Rattle.dshot_reply_spec.proofs.GcrLaws.{nibble-small}
 use Rattle.dshot_reply_spec.proofs.Table.{at}

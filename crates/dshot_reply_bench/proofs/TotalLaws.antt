@@ -1,7 +1,7 @@
 -- The sum over the words from a place on, one word at a time; and the numbers of refusals are small.
 -- Assumes nothing.
-use mathlib.Core.Path.{_≡_, ap, _∙_}
-use mathlib.Core.List.{List, [], _∷_}
+use mathlib.Core.Path.{_≡_}
+use mathlib.Core.List.{List}
 use Prim.Native.Nat.{ℕ, _+_, _%_, _^_, _≤_, _<_}
 use native.Mathlib.Numerals.{add-one}
 use lib.Dec.{lit≤}

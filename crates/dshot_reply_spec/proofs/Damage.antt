@@ -1,13 +1,11 @@
 -- A word in which one symbol is damaged does not decode.
 -- Assumes nothing.
-use mathlib.Core.Path.{_≡_, sym, subst, refl, ap, _∙_}
+use mathlib.Core.Path.{_≡_, sym, subst, ap, _∙_}
 use mathlib.Core.Logic.{_⊎_, inl, inr, ⊎-elim}
-use mathlib.Core.Bool.{Bool, true, false}
 use Prim.Native.Nat.{ℕ, zero, suc, _+_, _<_}
 use native.Mathlib.Omega.{arith}
 use lib.Bits.{bitXor}
-use lib.Dec.{eqb}
-use borrow.Author.Tests.{eqb-true, eqb-false}
+use Rattle.dshot_reply_spec.proofs.Cases.{equal-or-not}
 use Rattle.dshot_reply_spec.proofs.Decode.{bad, nibble-lt, nibbles-xor, reply-nibble, reply-symbol, symbol-small, unequal, xorOf}
 use Rattle.dshot_reply_spec.proofs.GcrLaws.{nibble-small, symbol-back}
 use Rattle.dshot_reply_spec.proofs.XorLaws.{assoc, cancel-left, cancel-right, nibble-xor}
@@ -17,13 +15,6 @@ use Rattle.dshot_reply_spec.specs.Render.{Damaged}
 
 abbrev pub Undecoded : Answer ℕ → Type 0
 Undecoded d = (d ≡ (refused invalidSymbol)) ⊎ (d ≡ (refused wrongChecksum))
-
-pub equal-or-not : (m n : ℕ) → (m ≡ n) ⊎ (m ≡ n → ⊥)
-equal-or-not m n = go (eqb m n) refl
-  where
-    go : (t : Bool) → eqb m n ≡ t → (m ≡ n) ⊎ (m ≡ n → ⊥)
-    go true e = inl (eqb-true m n e)
-    go false e = inr (eqb-false m n e)
 
 -- four nibbles, or marks of bad symbols, do not decode unless all are nibbles and their exclusive or is 0xF
 pub not-taken : (f : ℕ → ℕ) → (((p : ℕ) → p < 4 → f p ≡ 255 → ⊥) → xorOf f ≡ 15 → ⊥) → Undecoded (fromNibbles (f 3) (f 2) (f 1) (f 0))

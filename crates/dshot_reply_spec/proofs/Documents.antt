@@ -12,8 +12,9 @@ use lib.Bits.{bitXor, xor-comm, xor-mod}
 use lib.Dec.{eqb, lit<}
 use lib.ListN.{replicate}
 use lib.Pow.{pow-pos, split}
+use Rattle.dshot_reply_spec.proofs.Cases.{equal-or-not}
 use Rattle.dshot_reply_spec.proofs.Cross.{bit-low}
-use Rattle.dshot_reply_spec.proofs.Damage.{equal-or-not, small-nibbles}
+use Rattle.dshot_reply_spec.proofs.Damage.{small-nibbles}
 use Rattle.dshot_reply_spec.proofs.Decode.{bad, decode-reply, nibble-lt, reply-symbol, start-edge, taken, unequal, value-lt, word-again, xorOf}
 use Rattle.dshot_reply_spec.proofs.Shift.{bit-above, symbol-below}
 use Rattle.dshot_reply_spec.proofs.SimulatedRenders.{low-bits}

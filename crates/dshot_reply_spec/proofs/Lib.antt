@@ -1,4 +1,5 @@
 pub mod Table
+pub mod Cases
 pub mod XorLaws
 pub mod GcrLaws
 pub mod Decode

@@ -12,10 +12,10 @@ use lib.Dec.{T, eqb, eqb→eq}
 use borrow.Author.Tests.{eq-eqb, ne-eqb}
 use lib.Bits.{bitXor}
 use lib.Pow.{pow-pos, pow-add, shr-shr, field, mod-mod-pow, split}
+use Rattle.dshot_reply_spec.proofs.Cases.{equal-or-not, lt-or-eq-or-gt, lt-or-ge}
 use Rattle.dshot_reply_spec.proofs.Cross.{Crossed, Room, across-down, across-up, bit-low, crossed-down, crossed-up, good, inside, turn-high, turn-low, turning, turning-of, turns-of}
-use Rattle.dshot_reply_spec.proofs.Damage.{Undecoded, damaged, equal-or-not, kept, not-taken, pair-keeps, pair-settled, small-nibbles}
+use Rattle.dshot_reply_spec.proofs.Damage.{Undecoded, damaged, kept, not-taken, pair-keeps, pair-settled, small-nibbles}
 use Rattle.dshot_reply_spec.proofs.Decode.{nibble-lt, nibbles-xor, reply-nibble, reply-symbol, start-edge, value-lt, value-nibble, word-again, xorOf}
-use Rattle.dshot_reply_spec.proofs.Rendered.{lt-or-ge}
 use Rattle.dshot_reply_spec.proofs.Shift.{above, bit-above, symbol-above, symbol-below, under}
 use Rattle.dshot_reply_spec.proofs.Table.{both, both-right}
 use Rattle.dshot_reply_spec.specs.Answer.{pick}
@@ -64,9 +64,6 @@ symbol-top w w′ q a p e h =
 symbol-here : (w q : ℕ) → symbolAt w q ≡ w / 2 ^ (5 * q) % 32
 unfolding symbolAt
 symbol-here w q = refl
-
-lt-or-eq-or-gt : (p q : ℕ) → (p < q) ⊎ ((p ≡ q) ⊎ (q < p))
-lt-or-eq-or-gt p q = ⊎-elim inl (λ h. inr (⊎-elim (λ e. inl (sym e)) inr (eq-or-lt-of-le h))) (lt-or-ge p q)
 
 -- a move inside the symbol at q damages that symbol alone
 inside-damages : (w w′ q i j : ℕ) → q < 4 → (2 ^ i ≡ 2 ^ j → ⊥) → Local w w′ q 5 i j → Damaged w w′ q

@@ -9,12 +9,11 @@ use native.Mathlib.Omega.{arith}
 use lib.Dec.{eqb, leb, ltb}
 use lib.Pow.{shr-shr}
 use borrow.Author.Tests.{leb-false, leb-true, le-ltb, ltb-false, ne-eqb}
+use Rattle.dshot_reply_spec.proofs.Cases.{lt-or-ge}
 use Rattle.dshot_reply_spec.proofs.Passed.{passed}
 use Rattle.dshot_reply_spec.proofs.PeriodLaws.{scaled-done}
-use Rattle.dshot_reply_spec.proofs.Rendered.{lt-or-ge}
 use Rattle.dshot_reply_spec.specs.Answer.{given, pick, refused}
 use Rattle.dshot_reply_spec.specs.Period.{SmallestExponent, periodValue, scaled}
-use Rattle.dshot_reply_spec.specs.Runs.{high}
 
 -- no exponent below e leaves at most 511
 abbrev Short : ℕ → ℕ → Type 0

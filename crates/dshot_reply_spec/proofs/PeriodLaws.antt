@@ -6,7 +6,7 @@ use Prim.Native.Nat.{ℕ, zero, suc, _+_, _*_, _-_, _/_, _^_, _≤_, _<_}
 use native.Mathlib.Omega.{arith}
 use lib.Pow.{pow-add}
 use borrow.Author.Tests.{le-leb, lt-leb}
-use Rattle.dshot_reply_spec.proofs.Rendered.{lt-or-ge}
+use Rattle.dshot_reply_spec.proofs.Cases.{lt-or-ge}
 use Rattle.dshot_reply_spec.specs.Period.{scaled}
 
 -- more than 511 is left: the exponent can grow

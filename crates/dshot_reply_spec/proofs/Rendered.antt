@@ -1,20 +1,21 @@
 -- A capture that renders a word is read as that word, or, where its last run is too long, as no reply.
 -- Assumes nothing.
 use mathlib.Core.Path.{_≡_, sym, refl, ap, _∙_}
-use mathlib.Core.Logic.{_⊎_, inl, inr, ⊎-elim}
+use mathlib.Core.Logic.{_⊎_, inl, inr}
 use mathlib.Core.Bool.{Bool, true, false, not}
-use mathlib.Core.List.{List, [], _∷_, _++_, map}
+use mathlib.Core.List.{List, [], _∷_, _++_, map, append-nil}
 use Prim.Native.Nat.{ℕ, zero, suc, pred, _+_, _*_, _-_, _/_, _%_, _^_, _<_, _≤_}
 use native.Mathlib.Nat.{mul-comm, le-mul-of-pos-right, mul-assoc, zero-add, add-zero, add-suc, suc-add}
 use native.Mathlib.Omega.{arith}
-use borrow.Author.Tests.{ltb-true, ltb-false, lt-ltb, le-ltb, le-leb}
+use borrow.Author.Tests.{lt-ltb, le-ltb, le-leb}
 use lib.Dec.{ltb, leb}
 use lib.Arith.{digits-div}
 use lib.Pow.{pow-add}
 use lib.ListN.{length, take, drop, replicate, length-append, length-replicate}
 use lib.Seq.{drop-at}
-use Rattle.dshot_reply_spec.specs.Answer.{Answer, given, noReply, refused}
-use Rattle.dshot_reply_spec.specs.Render.{Lasts, RenderedRuns, Renders, closed-low, open-end, run}
+use Rattle.dshot_reply_spec.proofs.Cases.{lt-or-ge}
+use Rattle.dshot_reply_spec.specs.Answer.{Answer, given, noReply, pick, refused}
+use Rattle.dshot_reply_spec.specs.Render.{Lasts, RenderedRuns, Renders, closed-low, open-end, openBits, run}
 use Rattle.dshot_reply_spec.specs.Runs.{assemble, finished, firstLow, fromLevels, runBits, runsOf, runsWord, sum}
 
 -- ---- runs of samples
@@ -56,30 +57,27 @@ finished-edge false n t = refl
 finished-closed : (l : Bool) (n : ℕ) (ls t : List Bool) → ls ≡ not l ∷ t → finished l 0 (replicate n l ++ ls) ≡ n ∷ finished (not l) 0 ls
 finished-closed l n ls t e = finished-run l 0 n ls ∙ rw (e, zero-add) (finished-edge l n t)
 
-append-nil : (ls : List Bool) → ls ++ [] ≡ ls
-append-nil [] = refl
-append-nil (b ∷ ls) = ap (λ (x : List Bool). b ∷ x) (append-nil ls)
-
 finished-open : (l : Bool) (n : ℕ) → finished l 0 (replicate n l) ≡ []
 finished-open l n = ap (finished l 0) (sym (append-nil (replicate n l))) ∙ finished-run l 0 n []
 
 -- ---- the bits of the finished runs are those of the word, all of them or all but the last
 
-abbrev Got : List ℕ → List ℕ → Type 0
-Got ks got = (got ≡ ks) ⊎ ((k : ℕ) × (0 < k) × (got ++ (k ∷ []) ≡ ks))
+-- o bits are those of a last run that is not finished
+abbrev Got : List ℕ → List ℕ → ℕ → Type 0
+Got ks got o = ((o ≡ 0) × (got ≡ ks)) ⊎ ((0 < o) × (got ++ (o ∷ []) ≡ ks))
 
-got-more : (k : ℕ) {ks got : List ℕ} → Got ks got → Got (k ∷ ks) (k ∷ got)
-got-more k (inl e) = inl (ap (λ (x : List ℕ). k ∷ x) e)
-got-more k (inr q) = inr (q .0, q .1, ap (λ (x : List ℕ). k ∷ x) (q .2))
+got-more : (k : ℕ) {ks got : List ℕ} {o : ℕ} → Got ks got o → Got (k ∷ ks) (k ∷ got) o
+got-more k (inl q) = inl (q .0, ap (λ (x : List ℕ). k ∷ x) (q .1))
+got-more k (inr q) = inr (q .0, ap (λ (x : List ℕ). k ∷ x) (q .1))
 
-pub runs-got : (s : ℕ) → 0 < s → {l : Bool} {ks : List ℕ} {ls : List Bool} → RenderedRuns s l ks ls → Got ks (map (runBits s) (finished l 0 ls))
+pub runs-got : (s : ℕ) → 0 < s → {l : Bool} {ks : List ℕ} {ls : List Bool} (r : RenderedRuns s l ks ls) → Got ks (map (runBits s) (finished l 0 ls)) (openBits r)
 runs-got s p (run l k n ks ls h r) = go (starts s p r) (runs-got s p r)
   where
-    go : (t : List Bool) × (ls ≡ not l ∷ t) → Got ks (map (runBits s) (finished (not l) 0 ls)) → Got (k ∷ ks) (map (runBits s) (finished l 0 (replicate n l ++ ls)))
+    go : (t : List Bool) × (ls ≡ not l ∷ t) → Got ks (map (runBits s) (finished (not l) 0 ls)) (openBits r) → Got (k ∷ ks) (map (runBits s) (finished l 0 (replicate n l ++ ls))) (openBits r)
     go t g = rw (finished-closed l n ls (t .0) (t .1), lasts-bits s k n p h) (got-more k g)
-runs-got s p (open-end l k n h some) = inr (k, h, rw (finished-open l n))
+runs-got s p (open-end l k n h some) = inr (h, rw (finished-open l n))
 runs-got s p (closed-low k n m h some) =
-    inl (rw (finished-closed false n (replicate m true) (replicate (pred m) true) (replicate-pos true m some), finished-open true m, lasts-bits s k n p h))
+    inl (refl, rw (finished-closed false n (replicate m true) (replicate (pred m) true) (replicate-pos true m some), finished-open true m, lasts-bits s k n p h))
 
 -- ---- what those bits are assembled to
 
@@ -109,13 +107,6 @@ assemble-none ks k e l = rw (le-ltb 21 (sum ks) (omega arith), lt-ltb (sum ks) 1
 abbrev pub Read : Answer ℕ → ℕ → Type 0
 Read t w = (t ≡ given w) ⊎ ((t ≡ (refused noReply)) × (w % 8 ≡ 0))
 
-pub lt-or-ge : (a b : ℕ) → (a < b) ⊎ (b ≤ a)
-lt-or-ge a b = go (ltb a b) refl
-  where
-    go : (t : Bool) → ltb a b ≡ t → (a < b) ⊎ (b ≤ a)
-    go true e = inl (ltb-true a b e)
-    go false e = inr (ltb-false a b e)
-
 low-zeros : (x k : ℕ) → 3 < k → (x * 2 ^ k + 2 ^ (k - 1)) % 8 ≡ 0
 low-zeros x k h =
     let j = k - 4 in
@@ -123,16 +114,23 @@ low-zeros x k h =
     let b : 2 ^ (k - 1) ≡ 2 ^ j * 8 = ap (λ (n : ℕ). 2 ^ n) (omega arith) ∙ pow-add 2 j 3 in
     rw (a, b, ← mul-assoc x (2 ^ j) 16) (omega arith)
 
-got-read : (ks got : List ℕ) (w : ℕ) → sum ks ≡ 21 → runsWord 0 ks ≡ w → Got ks got → Read (assemble got) w
-got-read ks got w s e (inl q) = inl (rw q (assemble-whole ks s ∙ ap given e))
-got-read ks got w s e (inr q) =
-    ⊎-elim
-    (λ l. inl (assemble-rest got (q .0) (sym (sum-snoc got (q .0)) ∙ ap sum (q .2) ∙ s) (q .1) l ∙ ap given (ap (runsWord 0) (q .2) ∙ e)))
-    (λ l. inr (
-      assemble-none got (q .0) (sym (sum-snoc got (q .0)) ∙ ap sum (q .2) ∙ s) l,
-      ap (λ (n : ℕ). n % 8) (sym (sym (word-snoc got 0 (q .0)) ∙ ap (runsWord 0) (q .2) ∙ e)) ∙ low-zeros (runsWord 0 got) (q .0) l,
-    ))
-    (lt-or-ge (q .0) 4)
+-- the word is given, unless the run that is not finished has more than three bits
+got-exact : (ks got : List ℕ) (o w : ℕ) → sum ks ≡ 21 → runsWord 0 ks ≡ w → Got ks got o → assemble got ≡ pick (ltb 3 o) (refused noReply) (given w)
+got-exact ks got o w s e (inl q) = rw (q .0, q .1) (assemble-whole ks s ∙ ap given e)
+got-exact ks got o w s e (inr q) = go (lt-or-ge 3 o)
+  where
+    all : sum got + o ≡ 21
+    all = sym (sum-snoc got o) ∙ ap sum (q .1) ∙ s
+
+    go : (3 < o) ⊎ (o ≤ 3) → assemble got ≡ pick (ltb 3 o) (refused noReply) (given w)
+    go (inl l) = rw (lt-ltb 3 o l) (assemble-none got o all l)
+    go (inr l) = rw (le-ltb 3 o l) (assemble-rest got o all (q .0) (omega arith) ∙ ap given (ap (runsWord 0) (q .1) ∙ e))
+
+-- and then the word ends in three zeros
+got-zeros : (ks got : List ℕ) (o w : ℕ) → runsWord 0 ks ≡ w → 3 < o → Got ks got o → w % 8 ≡ 0
+got-zeros ks got o w e l (inl q) = absurd (omega arith)
+got-zeros ks got o w e l (inr q) =
+    ap (λ (n : ℕ). n % 8) (sym (sym (word-snoc got 0 o) ∙ ap (runsWord 0) (q .1) ∙ e)) ∙ low-zeros (runsWord 0 got) o l
 
 -- ---- the start
 
@@ -140,11 +138,12 @@ first-low : (n : ℕ) (t : List Bool) → firstLow (replicate n true ++ (false �
 first-low zero t = refl
 first-low (suc n) t = ap suc (first-low n t)
 
--- a capture that renders w is read as w, or as no reply where w ends in too long a run
-pub rendered-read : (s : ℕ) → 0 < s → (ls : List Bool) (w : ℕ) → Renders s ls w → Read (fromLevels s ls) w
+-- a capture that renders w is read as w, unless it ends in a run of more than three bits that does not close: then there is no reply
+pub rendered-exact : (s : ℕ) → 0 < s → (ls : List Bool) (w : ℕ) (r : Renders s ls w) → fromLevels s ls ≡ pick (ltb 3 (openBits (r .rendered))) (refused noReply) (given w)
 unfolding fromLevels
-rendered-read s p ls w r =
-    rw (r .split, start, back, long) (got-read (r .runs) (runsOf s (take (23 * s) (r .after))) w (r .bits) (r .word) (runs-got s p (r .rendered)))
+rendered-exact s p ls w r =
+    rw (r .split, start, back, long)
+    (got-exact (r .runs) (runsOf s (take (23 * s) (r .after))) (openBits (r .rendered)) w (r .bits) (r .word) (runs-got s p (r .rendered)))
   where
     low : (m : ℕ) (after t : List Bool) (n : ℕ) → take m after ≡ false ∷ t → firstLow (replicate n true ++ after) ≡ n
     low zero after t n e = absurd (let z : _≡_ {A = ℕ} 0 1 = cc in omega arith)
@@ -160,3 +159,14 @@ rendered-read s p ls w r =
 
     long : leb (19 * s) (length (replicate (r .lead) true ++ r .after) - r .lead) ≡ true
     long = le-leb (19 * s) (length (replicate (r .lead) true ++ r .after) - r .lead) (omega (arith, r .room, length-append (replicate (r .lead) true) (r .after), length-replicate (r .lead) true))
+
+-- a capture that renders w is read as w, or as no reply where w ends in too long a run
+pub rendered-read : (s : ℕ) → 0 < s → (ls : List Bool) (w : ℕ) → Renders s ls w → Read (fromLevels s ls) w
+rendered-read s p ls w r = go (lt-or-ge 3 o)
+  where
+    o : ℕ
+    o = openBits (r .rendered)
+
+    go : (3 < o) ⊎ (o ≤ 3) → Read (fromLevels s ls) w
+    go (inl l) = inr (rw (lt-ltb 3 o l) at (rendered-exact s p ls w r), got-zeros (r .runs) (runsOf s (take (23 * s) (r .after))) o w (r .word) l (runs-got s p (r .rendered)))
+    go (inr l) = inl (rw (le-ltb 3 o l) at (rendered-exact s p ls w r))

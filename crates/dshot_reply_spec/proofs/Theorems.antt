@@ -10,7 +10,7 @@ use native.Mathlib.Nat.{mod-mod}
 use native.Mathlib.Omega.{arith}
 use lib.Dec.{eqb, lit≤}
 use Rattle.dshot_reply_spec.proofs.Damage.{Undecoded, damaged}
-use Rattle.dshot_reply_spec.proofs.Decode.{decode-reply, ends-in-zeros, taken}
+use Rattle.dshot_reply_spec.proofs.Decode.{decode-reply, ends-in-zeros}
 use Rattle.dshot_reply_spec.proofs.Moves.{moved-decode}
 use Rattle.dshot_reply_spec.proofs.Rendered.{rendered-read}
 use Rattle.dshot_reply_spec.specs.Answer.{Answer, Rejected, given, invalidSymbol, noReply, pick, refused, then, zeroPeriod}

@@ -20,6 +20,12 @@ pub data RenderedRuns (s : ℕ) : Bool → List ℕ → List Bool → Type 0 whe
   open-end : (l : Bool) (k n : ℕ) → 0 < k → 0 < n → RenderedRuns s l (k ∷ []) (replicate n l)
   closed-low : (k n m : ℕ) → Lasts s k n → 0 < m → RenderedRuns s false (k ∷ []) (replicate n false ++ replicate m true)
 
+-- the bits of a last run that does not close before the end of reading, and 0 where the last run closes
+abbrev pub openBits : {s : ℕ} {l : Bool} {ks : List ℕ} {ls : List Bool} → RenderedRuns s l ks ls → ℕ
+openBits (run l k n ks ls h r) = openBits r
+openBits (open-end l k n h some) = k
+openBits (closed-low k n m h some) = 0
+
 -- a capture's levels render the 21 bits of the word w: high before the start, 19 bits of samples from there on (57 at 3 a bit), and the runs of
 -- w in the 23 bits of samples that are read at most (69 at 3)
 pub record Renders (s : ℕ) (ls : List Bool) (w : ℕ) : Type 0 where

@@ -1,8 +1,8 @@
 // The library for C: one archive of exported functions on numbers and slices.
 //
-// Each checks the lengths of the slices that it is lent and returns the number of its refusal in document 01, or 0 when it is done; a refused
-// call leaves every slot as it was. Numbers are 32 bits wide or a `usize`: a value is taken modulo 4096, of a mask the low sixteen bits count, and
-// a flag of 0 is no, any other yes. No `bool`, enum or struct is passed.
+// Each checks the number of slots that it is lent, and returns the number of its refusal in document 01, or 0 when it is done; a refused call
+// leaves every slot as it was. A call that cannot refuse returns what it was asked for. Numbers are 32 bits wide or a `usize`: a value is taken
+// modulo 4096, of a mask the low sixteen bits count, and a flag of 0 is no, any other yes. No `bool`, enum or struct is passed.
 
 // Replies and the simulated ESC.
 pub mod reply;

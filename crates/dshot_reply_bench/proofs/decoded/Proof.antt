@@ -1,6 +1,6 @@
 -- `dshot_reply_bench::decoded` meets its contract: the answer as one number, which fits.
 -- Assumes nothing.
-use mathlib.Core.Path.{_≡_, sym, ap, _∙_}
+use mathlib.Core.Path.{sym, ap, _∙_}
 use Prim.Native.Nat.{ℕ, _*_}
 use native.Mathlib.Omega.{arith}
 use Rattle.dshot_reply.specs.Answers.{decodedAnswer}
