@@ -16,10 +16,11 @@ use Rattle.dshot_reply_spec.proofs.Cases.{equal-or-not}
 use Rattle.dshot_reply_spec.proofs.Cross.{bit-low}
 use Rattle.dshot_reply_spec.proofs.Damage.{small-nibbles}
 use Rattle.dshot_reply_spec.proofs.Decode.{bad, decode-reply, nibble-lt, reply-symbol, start-edge, taken, unequal, value-lt, word-again, xorOf}
+use Rattle.dshot_reply_spec.proofs.Choice.{not-both}
 use Rattle.dshot_reply_spec.proofs.Shift.{bit-above, symbol-below}
 use Rattle.dshot_reply_spec.proofs.SimulatedRenders.{low-bits}
 use Rattle.dshot_reply_spec.proofs.XorLaws.{assoc, nibble-xor}
-use Rattle.dshot_reply_spec.specs.Answer.{Answer, given, pick, refused}
+use Rattle.dshot_reply_spec.specs.Answer.{Answer, given, pick}
 use Rattle.dshot_reply_spec.specs.Betaflight.{crc, gcr, lineFrom, nearest, numberFrom, period, replyBits, replyLine, sampled, speed}
 use Rattle.dshot_reply_spec.specs.Edt.{edtReply, isSpeed, typed}
 use Rattle.dshot_reply_spec.specs.Gcr.{checksum, decodeWord, fromNibbles, nibbleAt, replyNibble, replyWord, symbolAt, symbolOf}
@@ -135,10 +136,6 @@ decode-low w = decode-same w (w % 2 ^ 20) (sym (mod-mod w (2 ^ 20)))
 -- 4: a word whose lowest twenty bits are those of the document for a value decodes to the value
 pub decodes : (w v : ℕ) → v < 4096 → w % 2 ^ 20 ≡ numberFrom 0 (replyBits v) → decodeWord w ≡ given v
 decodes w v h e = decode-same w (replyWord v) (e ∙ sym (low-sent v h)) ∙ decode-reply v ∙ ap given (mod-eq-of-lt h)
-
--- an answer is not given and refused at once
-not-both : {a : Answer ℕ} {v n : ℕ} → a ≡ given v → a ≡ refused n → ⊥
-not-both e f = let z : _≡_ {A = ℕ} 0 1 = cc in omega arith
 
 -- four nibbles that decode are no marks of bad symbols, and their exclusive or is 0xF
 module _ (f : ℕ → ℕ) (v : ℕ) (e : fromNibbles (f 3) (f 2) (f 1) (f 0) ≡ given v) where

@@ -1,5 +1,6 @@
 pub mod Table
 pub mod Cases
+pub mod Choice
 pub mod XorLaws
 pub mod GcrLaws
 pub mod Decode
@@ -10,7 +11,6 @@ pub mod Rows
 pub mod Cross
 pub mod Moves
 pub mod Theorems
-pub mod Passed
 pub mod Words
 pub mod SimulatedRenders
 pub mod Simulated

@@ -10,9 +10,9 @@ use lib.Dec.{eqb, leb, ltb}
 use lib.Pow.{shr-shr}
 use borrow.Author.Tests.{leb-false, leb-true, le-ltb, ltb-false, ne-eqb}
 use Rattle.dshot_reply_spec.proofs.Cases.{lt-or-ge}
-use Rattle.dshot_reply_spec.proofs.Passed.{passed}
+use Rattle.dshot_reply_spec.proofs.Choice.{not-both, not-first}
 use Rattle.dshot_reply_spec.proofs.PeriodLaws.{scaled-done}
-use Rattle.dshot_reply_spec.specs.Answer.{given, pick, refused}
+use Rattle.dshot_reply_spec.specs.Answer.{given}
 use Rattle.dshot_reply_spec.specs.Period.{SmallestExponent, periodValue, scaled}
 
 -- no exponent below e leaves at most 511
@@ -51,8 +51,8 @@ scaled-smallest (suc k) p e h q short =
 pub period-value : (p v : ℕ) → periodValue p ≡ given v → SmallestExponent p v
 unfolding periodValue
 period-value p v e =
-    let a = passed (eqb p 0) 16 (pick (ltb 65535 p) (refused 16) (given (scaled 7 0 p))) v e in
-    let b = passed (ltb 65535 p) 16 (given (scaled 7 0 p)) v (a .1) in
+    let a = not-first (eqb p 0) e (λ f. not-both f refl) in
+    let b = not-first (ltb 65535 p) (a .1) (λ f. not-both f refl) in
     let same = b .1 in
     let q : scaled 7 0 p ≡ v = cc in
     subst (SmallestExponent p) (ap (scaled 7 0) (div-one p) ∙ q)

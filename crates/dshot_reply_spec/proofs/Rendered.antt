@@ -70,7 +70,7 @@ got-more : (k : ℕ) {ks got : List ℕ} {o : ℕ} → Got ks got o → Got (k �
 got-more k (inl q) = inl (q .0, ap (λ (x : List ℕ). k ∷ x) (q .1))
 got-more k (inr q) = inr (q .0, ap (λ (x : List ℕ). k ∷ x) (q .1))
 
-pub runs-got : (s : ℕ) → 0 < s → {l : Bool} {ks : List ℕ} {ls : List Bool} (r : RenderedRuns s l ks ls) → Got ks (map (runBits s) (finished l 0 ls)) (openBits r)
+runs-got : (s : ℕ) → 0 < s → {l : Bool} {ks : List ℕ} {ls : List Bool} (r : RenderedRuns s l ks ls) → Got ks (map (runBits s) (finished l 0 ls)) (openBits r)
 runs-got s p (run l k n ks ls h r) = go (starts s p r) (runs-got s p r)
   where
     go : (t : List Bool) × (ls ≡ not l ∷ t) → Got ks (map (runBits s) (finished (not l) 0 ls)) (openBits r) → Got (k ∷ ks) (map (runBits s) (finished l 0 (replicate n l ++ ls))) (openBits r)

@@ -10,10 +10,10 @@ use lib.Dec.{eqb, ltb}
 use lib.ListN.{length, replicate, length-append, length-map, length-replicate}
 use borrow.Author.Tests.{eqb-false, le-ltb, ltb-false, ne-eqb}
 use Rattle.dshot_reply_spec.proofs.Decode.{start-edge}
-use Rattle.dshot_reply_spec.proofs.Passed.{passed}
+use Rattle.dshot_reply_spec.proofs.Choice.{not-both, not-first}
 use Rattle.dshot_reply_spec.proofs.SimulatedRenders.{length-bits, word-renders}
 use Rattle.dshot_reply_spec.proofs.Theorems.{reply-reads}
-use Rattle.dshot_reply_spec.specs.Answer.{given, pick, refused}
+use Rattle.dshot_reply_spec.specs.Answer.{given}
 use Rattle.dshot_reply_spec.specs.Gcr.{replyWord}
 use Rattle.dshot_reply_spec.specs.Reading.{sampledReply}
 use Rattle.dshot_reply_spec.specs.Render.{Renders}
@@ -54,9 +54,8 @@ record Written (s : ℕ) (out : List ℕ) (v lead mask : ℕ) (l : List ℕ) : T
 written : (s : ℕ) (out : List ℕ) (v lead mask : ℕ) (l : List ℕ) → simulated s out v lead mask ≡ given l → Written s out v lead mask l
 unfolding simulated
 written s out v lead mask l e =
-    let w = given (wordSamples s (replyWord v) lead mask (length out)) in
-    let p = passed (ltb (length out) (lead + 23 * s)) 13 (pick (eqb mask 0) (refused 12) w) l e in
-    let q = passed (eqb mask 0) 12 w l (p .1) in
+    let p = not-first (ltb (length out) (lead + 23 * s)) e (λ f. not-both f refl) in
+    let q = not-first (eqb mask 0) (p .1) (λ f. not-both f refl) in
     let same = q .1 in record {
       room = ltb-false (length out) (lead + 23 * s) (p .0);
       pins = eqb-false mask 0 (q .0);

@@ -9,6 +9,7 @@ use Prim.Native.Nat.{ℕ, _+_, _*_, _/_, _%_, _^_, _<_, _≤_}
 use native.Mathlib.Nat.{mod-mod}
 use native.Mathlib.Omega.{arith}
 use lib.Dec.{eqb, lit≤}
+use Rattle.dshot_reply_spec.proofs.Choice.{not-both}
 use Rattle.dshot_reply_spec.proofs.Damage.{Undecoded, damaged}
 use Rattle.dshot_reply_spec.proofs.Decode.{decode-reply, ends-in-zeros}
 use Rattle.dshot_reply_spec.proofs.Moves.{moved-decode}
@@ -52,7 +53,7 @@ value-sound value extended =
     (sound-pick speeds (speedValue v) other (speed-value-sound v) (sound-given (readingOf (v / 512) (v % 256))))
 
 sound-kept : (a : Answer Reading) → Sound a → Rejected a → ⊥
-sound-kept a (inl p) j = let e = p .1 in let f = j .refusal in let z : _≡_ {A = ℕ} 0 1 = cc in omega arith
+sound-kept a (inl p) j = not-both (p .1) (j .refusal)
 sound-kept a (inr p) j = let f = j .refusal in let z : j .number ≡ zeroPeriod = cc in omega (arith, j .most)
 
 value-kept : (v : ℕ) (extended : Bool) → Rejected (replyOf v extended) → ⊥
@@ -82,7 +83,7 @@ module _ (s : ℕ) (pos : 0 < s) (samples : List ℕ) (mask : ℕ) (extended : B
   reply-reads v r =
       ⊎-elim
       (λ e. e ∙ ap (λ (d : Answer ℕ). then d (λ x. replyOf x extended)) (decode-reply v) ∙ value-again v)
-      (λ q. absurd (let h = decode-reply v in let k = q .1 in let z : _≡_ {A = ℕ} 0 1 = cc in omega arith))
+      (λ q. absurd (not-both (decode-reply v) (q .1)))
       (rendered-reply (replyWord v) r)
 
   -- what does not decode is refused
@@ -103,8 +104,8 @@ module _ (s : ℕ) (pos : 0 < s) (samples : List ℕ) (mask : ℕ) (extended : B
   damage-refused v w′ p d r = undecoded-refused w′ r (damaged v w′ p d)
 
   no-word : (x w′ : ℕ) → w′ ≡ replyWord x → Undecoded (decodeWord w′) → ⊥
-  no-word x w′ e (inl u) = let d = ap decodeWord e ∙ decode-reply x in let z : _≡_ {A = ℕ} 0 1 = cc in omega arith
-  no-word x w′ e (inr u) = let d = ap decodeWord e ∙ decode-reply x in let z : _≡_ {A = ℕ} 0 1 = cc in omega arith
+  no-word x w′ e (inl u) = not-both (ap decodeWord e ∙ decode-reply x) u
+  no-word x w′ e (inr u) = not-both (ap decodeWord e ∙ decode-reply x) u
 
   -- 3: a capture that renders a reply word with one edge moved by one bit is taken exactly where two neighbouring nibbles turn
   pub moved-edge : (v w′ i j : ℕ) → Moved (replyWord v) w′ i j → Renders s (levels mask samples) w′ → MovedEdge v w′ extended (sampledReply s samples mask extended)

@@ -11,9 +11,9 @@ use lib.Dec.{leb, ltb}
 use lib.ListN.{length, take, drop}
 use lib.Pow.{high, pow-lt, pow-pos, shr-shr}
 use borrow.Author.Tests.{ltb-false, ltb-true}
-use Rattle.dshot_reply_spec.proofs.Passed.{held, passed}
+use Rattle.dshot_reply_spec.proofs.Choice.{not-both, not-first, not-second}
 use Rattle.dshot_reply_spec.proofs.Rendered.{sum-snoc}
-use Rattle.dshot_reply_spec.specs.Answer.{given, noReply, overlong, pick, refused}
+use Rattle.dshot_reply_spec.specs.Answer.{given, pick}
 use Rattle.dshot_reply_spec.specs.Runs.{assemble, complete, finished, firstLow, fromLevels, levels, runBits, runsOf, runsWord, sum, transitionsOf}
 
 -- every run counts at least one bit
@@ -63,9 +63,8 @@ complete-start ks c h = go (ltb (sum ks) 21) refl
 assemble-start : (ks : List ℕ) (w : ℕ) → Counted ks → assemble ks ≡ given w → w / 2 ^ 20 ≡ 1
 unfolding assemble
 assemble-start ks w c e =
-    let word = given (runsWord 0 (complete ks)) in
-    let a = passed (ltb 21 (sum ks)) overlong (pick (ltb (sum ks) 18) (refused noReply) word) w e in
-    let b = passed (ltb (sum ks) 18) noReply word w (a .1) in
+    let a = not-first (ltb 21 (sum ks)) e (λ f. not-both f refl) in
+    let b = not-first (ltb (sum ks) 18) (a .1) (λ f. not-both f refl) in
     let same = b .1 in
     let q : runsWord 0 (complete ks) ≡ w = cc in
     rw q at (complete-start ks c (ltb-false 21 (sum ks) (a .0)))
@@ -76,5 +75,5 @@ unfolding transitionsOf fromLevels
 transitions-start s samples mask w e =
     let ls = levels mask samples in
     let part = take (23 * s) (drop (firstLow ls) ls) in
-    let a = held (leb (19 * s) (length ls - firstLow ls)) noReply (assemble (runsOf s part)) w e in
+    let a = not-second (leb (19 * s) (length ls - firstLow ls)) e (λ f. not-both f refl) in
     assemble-start (runsOf s part) w (counted-bits s (finished false 0 part)) (a .1)

@@ -1,27 +1,16 @@
 -- The values that are refused with 11: with EDT off the multiples of 512 but for the acknowledgement 0xE00, with EDT on the value 0 alone.
 -- Assumes nothing.
 use mathlib.Core.Path.{_≡_, refl}
-use mathlib.Core.Bool.{Bool, true, false, _||_}
-use Prim.Native.Nat.{ℕ, _+_, _*_, _/_, _%_, _^_}
+use mathlib.Core.Bool.{true, false, _||_}
+use Prim.Native.Nat.{ℕ, _*_, _/_, _%_, _^_}
 use native.Mathlib.Nat.{eq-of-mul-eq-mul-right, zero-mul}
 use native.Mathlib.Omega.{arith}
 use lib.Dec.{eqb}
 use lib.Pow.{pow-pos}
 use borrow.Author.Tests.{eqb-false, eqb-true, ne-eqb}
-use Rattle.dshot_reply_spec.specs.Answer.{Answer, given, pick, refused, zeroPeriod}
-use Rattle.dshot_reply_spec.specs.Value.{edt, erpm, readingOf, replyOf, speedOf, speedValue}
-
--- ---- a refusal passes the tests that give a reading
-
--- a test that gives where it holds did not hold
-not-first : {A : Type 0} (b : Bool) (x : A) (a : Answer A) (n : ℕ) → pick b (given x) a ≡ refused n → (b ≡ false) × (a ≡ refused n)
-not-first true x a n e = absurd (let z : _≡_ {A = ℕ} 0 1 = cc in omega arith)
-not-first false x a n e = (refl, e)
-
--- a test that gives where it does not hold held
-not-second : {A : Type 0} (b : Bool) (x : A) (a : Answer A) (n : ℕ) → pick b a (given x) ≡ refused n → (b ≡ true) × (a ≡ refused n)
-not-second true x a n e = (refl, e)
-not-second false x a n e = absurd (let z : _≡_ {A = ℕ} 0 1 = cc in omega arith)
+use Rattle.dshot_reply_spec.proofs.Choice.{not-both, not-first, not-second}
+use Rattle.dshot_reply_spec.specs.Answer.{refused, zeroPeriod}
+use Rattle.dshot_reply_spec.specs.Value.{replyOf, speedOf, speedValue}
 
 -- ---- the speeds that are refused
 
@@ -34,8 +23,8 @@ speed-zero : (u : ℕ) → speedValue u ≡ refused zeroPeriod → u % 512 ≡ 0
 unfolding speedValue speedOf
 speed-zero u e =
     let p = u % 512 * 2 ^ (u / 512) in
-    let a = not-first (eqb u 0xfff) (erpm 0) (speedOf p) zeroPeriod e in
-    let b = not-second (eqb p 0) (erpm ((600000 + p / 2) / p)) (refused zeroPeriod) zeroPeriod (a .1) in
+    let a = not-first (eqb u 0xfff) e (not-both refl) in
+    let b = not-second (eqb p 0) (a .1) (not-both refl) in
     first-zero (u % 512) (u / 512) (eqb-true p 0 (b .0))
 
 -- and there it is refused
@@ -50,7 +39,7 @@ pub zero-off : (v : ℕ) → replyOf v false ≡ refused zeroPeriod → (v % 512
 unfolding replyOf
 zero-off v e =
     let u = v % 4096 in
-    let a = not-first (eqb u 0xe00) edt (speedValue u) zeroPeriod e in
+    let a = not-first (eqb u 0xe00) e (not-both refl) in
     (omega (arith, speed-zero u (a .1)), eqb-false u 0xe00 (a .0))
 
 -- 2: and each such value is refused
@@ -72,7 +61,7 @@ pub zero-on : (v : ℕ) → replyOf v true ≡ refused zeroPeriod → v % 4096 �
 unfolding replyOf
 zero-on v e =
     let u = v % 4096 in
-    let a = not-second (eqb (u / 256 % 2) 1 || eqb (u / 256) 0) (readingOf (u / 512) (u % 256)) (speedValue u) zeroPeriod e in
+    let a = not-second (eqb (u / 256 % 2) 1 || eqb (u / 256) 0) e (not-both refl) in
     typed-zero u (a .0) (speed-zero u (a .1))
 
 -- 4: and 0 is refused
