@@ -31,6 +31,21 @@ filled slots out (refused n) = out
 
 -- ---- document 01's numbers of the refusals
 
+abbrev pub zeroTimerClock : ℕ
+zeroTimerClock = 1
+
+abbrev pub zeroBitrate : ℕ
+zeroBitrate = 2
+
+abbrev pub periodTooShort : ℕ
+periodTooShort = 3
+
+abbrev pub periodTooLong : ℕ
+periodTooLong = 4
+
+abbrev pub valueOutOfRange : ℕ
+valueOutOfRange = 5
+
 abbrev pub noReply : ℕ
 noReply = 7
 
@@ -51,6 +66,12 @@ noMask = 12
 
 abbrev pub wrongLength : ℕ
 wrongLength = 13
+
+abbrev pub wrongDuty : ℕ
+wrongDuty = 14
+
+abbrev pub wrongPacketChecksum : ℕ
+wrongPacketChecksum = 15
 
 abbrev pub periodOutOfRange : ℕ
 periodOutOfRange = 16

@@ -1,0 +1,27 @@
+-- A DShot frame as Betaflight's DShot documentation describes it, bit by bit as it goes over the wire. Written from what is known of that
+-- documentation, whose text was not at hand (docs/DIFFERENCES.md), and not from the code.
+-- Assumes nothing.
+use Prim.Native.Nat.{ℕ, zero, suc, _+_, _-_, _*_, _/_, _%_, _^_}
+use mathlib.Core.Bool.{Bool, true, false}
+use mathlib.Core.List.{List, [], _∷_, _++_}
+use lib.Bits.{bitXor}
+use Rattle.dshot_spec.specs.Packet.{Kind, plain, inverted}
+
+-- the lowest n bits of a number, the highest of them first
+abbrev pub bits : ℕ → ℕ → List ℕ
+bits zero x = []
+bits (suc n) x = x / 2 ^ n % 2 ∷ bits n x
+
+-- the telemetry request
+abbrev pub request : Bool → ℕ
+request true = 1
+request false = 0
+
+-- the checksum of the twelve bits x before it, (x ^ (x >> 4) ^ (x >> 8)) & 0x0F; bidirectional DShot inverts it, ~(..) & 0x0F
+unfoldable pub crc : Kind → ℕ → ℕ
+crc plain x = bitXor (bitXor x (x / 16)) (x / 256) % 16
+crc inverted x = 15 - bitXor (bitXor x (x / 16)) (x / 256) % 16
+
+-- eleven bits of value, the telemetry request and four bits of checksum
+unfoldable pub frameBits : Kind → ℕ → Bool → List ℕ
+frameBits kind value telemetry = bits 11 value ++ (request telemetry ∷ bits 4 (crc kind (value * 2 + request telemetry)))

@@ -1,0 +1,49 @@
+-- A run of special commands for one motor: each command is sent a number of times, one after the other.
+-- Stands for `DshotCommandSequence` of crates/ferrowasp-output/src/dshot.rs (Eirik2020/ferro-wasp, commit 9cb8aca1a6, Copyright (c) 2026
+-- Kaldstrand, Apache-2.0), changed: rewritten as definitions, for any list of commands and any number of repeats.
+-- Assumes nothing.
+use Prim.Native.Nat.{ℕ, zero, suc, _+_, _%_}
+use mathlib.Core.Bool.{Bool}
+use mathlib.Core.List.{List, [], _∷_}
+use lib.Dec.{eqb, ltb}
+use lib.ListN.{length, getD}
+use Rattle.dshot_reply_spec.specs.Answer.{pick}
+
+-- which command is next, and how often it is still to be sent
+pub record CommandRun : Type 0 where
+  pub commands : List ℕ
+  pub index : ℕ
+  pub repeatsLeft : ℕ
+
+-- a direction command, 20 or 21 for reversed, and then the command to save, 12, ten times each
+unfoldable pub spinDirection : Bool → CommandRun
+spinDirection reversed = record { commands = pick reversed 21 20 ∷ 12 ∷ []; index = 0; repeatsLeft = 10 }
+
+-- the command for the next frame, if there is one
+pub data Command : Type 0 where
+  none : Command
+  send : ℕ → Command
+
+-- the command for the next frame, and the run after it
+pub record Next : Type 0 where
+  pub command : Command
+  pub run : CommandRun
+
+-- the run after a command has been sent, which leaves it to be sent so often: after the last time the next command is due
+abbrev pub counted : ℕ → CommandRun → ℕ → CommandRun
+counted repeats run left =
+    pick (eqb left 0)
+    (record { commands = run .commands; index = run .index + 1; repeatsLeft = repeats })
+    (record { commands = run .commands; index = run .index; repeatsLeft = left })
+
+-- one step of a run; the count is a byte and wraps, so that a count of 0, which no run reaches, is taken for 256
+unfoldable pub nextValue : ℕ → CommandRun → Next
+nextValue repeats run =
+    pick (ltb (run .index) (length (run .commands)))
+    (record { command = send (getD (run .commands) (run .index) 0); run = counted repeats run ((run .repeatsLeft + 255) % 256) })
+    (record { command = none; run = run })
+
+-- the next n commands of a run
+abbrev pub sentBy : ℕ → ℕ → CommandRun → List Command
+sentBy repeats zero run = []
+sentBy repeats (suc n) run = nextValue repeats run .command ∷ sentBy repeats n (nextValue repeats run .run)

@@ -1,0 +1,15 @@
+-- When a command's lease has run out, on a clock of 64 bits that may wrap.
+-- Stands for `command_lease_expired` of crates/ferrowasp-output/src/dshot.rs (Eirik2020/ferro-wasp, commit 9cb8aca1a6, Copyright (c) 2026
+-- Kaldstrand, Apache-2.0), changed: rewritten as a definition.
+-- Assumes nothing.
+use Prim.Native.Nat.{ℕ, _+_, _-_, _%_, _^_}
+use mathlib.Core.Bool.{Bool}
+use lib.Dec.{ltb}
+
+-- the time from `started` to `now`
+abbrev pub elapsed : ℕ → ℕ → ℕ
+elapsed started now = (now + (2 ^ 64 - started)) % 2 ^ 64
+
+-- an earlier clock is expired, unless the wrapped difference is within the lease
+unfoldable pub leaseExpired : ℕ → ℕ → ℕ → Bool
+leaseExpired started duration now = ltb duration (elapsed started now)

@@ -1,0 +1,9 @@
+pub mod Tabulate
+pub mod Packet
+pub mod Timing
+pub mod Sequence
+pub mod Throttle
+pub mod Command
+pub mod Lease
+pub mod Betaflight
+pub mod FixedPoints

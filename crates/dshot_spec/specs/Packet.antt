@@ -1,0 +1,75 @@
+-- The packet word of a value and a telemetry bit, and what a packet word says.
+-- Stands for `DshotPacket` and `four_motor_packets` with its bidirectional form, of crates/ferrowasp-output/src/dshot.rs (Eirik2020/ferro-wasp,
+-- commit 9cb8aca1a6, Copyright (c) 2026 Kaldstrand, Apache-2.0), changed: rewritten as definitions. The reader is added by document 01.
+-- Assumes nothing.
+use Prim.Native.Nat.{ℕ, _+_, _*_, _/_, _%_}
+use mathlib.Core.Bool.{Bool, true, false}
+use mathlib.Core.List.{List}
+use lib.Dec.{eqb, ltb}
+use lib.Bits.{bitXor}
+use lib.ListN.{getD}
+use Rattle.dshot_reply_spec.specs.Answer.{Answer, given, refused, pick, valueOutOfRange, wrongPacketChecksum}
+use Rattle.dshot_spec.specs.Tabulate.{tabulate}
+
+-- how the checksum is sent: as it is, or inverted, which asks a bidirectional ESC to answer
+pub data Kind : Type 0 where
+  plain : Kind
+  inverted : Kind
+
+-- what a packet says
+pub record Frame : Type 0 where
+  pub value : ℕ
+  pub telemetry : Bool
+  pub kind : Kind
+
+-- a flag as a bit
+abbrev pub flag : Bool → ℕ
+flag true = 1
+flag false = 0
+
+-- eleven bits of value, of which higher bits are dropped, and the telemetry bit below them
+abbrev pub payload : ℕ → Bool → ℕ
+payload value telemetry = 2 * (value % 2048) + flag telemetry
+
+-- the exclusive or of a payload's three nibbles
+abbrev pub checksum : ℕ → ℕ
+checksum p = bitXor (bitXor (p % 16) (p / 16 % 16)) (p / 256 % 16)
+
+abbrev pub sent : Kind → ℕ → ℕ
+sent plain c = c
+sent inverted c = bitXor c 15
+
+-- the payload, and the checksum as it is sent in the lowest four bits
+unfoldable pub packetWord : Kind → ℕ → Bool → ℕ
+packetWord kind value telemetry = 16 * payload value telemetry + sent kind (checksum (payload value telemetry))
+
+-- the plain packet of a value that fits in eleven bits
+unfoldable pub tryPacket : ℕ → Bool → Answer ℕ
+tryPacket value telemetry = pick (ltb 2047 value) (refused valueOutOfRange) (given (packetWord plain value telemetry))
+
+-- ---- the packets of n motors
+
+-- the lane that is asked for telemetry
+pub data TelemetryLane : Type 0 where
+  none : TelemetryLane
+  lane : ℕ → TelemetryLane
+
+abbrev pub asks : TelemetryLane → ℕ → Bool
+asks none i = false
+asks (lane l) i = eqb l i
+
+-- a packet for each lane; a telemetry lane that is none of them marks no packet
+unfoldable pub motorPackets : ℕ → Kind → List ℕ → TelemetryLane → List ℕ
+motorPackets n kind values telemetryLane = tabulate n (λ i. packetWord kind (getD values i 0) (asks telemetryLane i))
+
+-- ---- the reader
+
+abbrev pub frameOf : Kind → ℕ → Frame
+frameOf kind p = record { value = p / 2; telemetry = eqb (p % 2) 1; kind = kind }
+
+-- the value, the telemetry bit and the kind of checksum of a packet word
+unfoldable pub readPacket : ℕ → Answer Frame
+readPacket w =
+    pick (eqb (w % 16) (checksum (w / 16))) (given (frameOf plain (w / 16)))
+    (pick (eqb (w % 16) (sent inverted (checksum (w / 16)))) (given (frameOf inverted (w / 16)))
+    (refused wrongPacketChecksum))

@@ -1,0 +1,70 @@
+-- The duties that a packet is sent as, the highest bit first, and what a sequence of duties says.
+-- Stands for `encode_packet` and `encode_compare_sequence` of crates/ferrowasp-output/src/dshot.rs (Eirik2020/ferro-wasp, commit 9cb8aca1a6,
+-- Copyright (c) 2026 Kaldstrand, Apache-2.0), changed: rewritten as definitions. The reader, and the refusal of a buffer of another
+-- length, are added by document 01.
+-- Assumes nothing.
+use Prim.Native.Nat.{ℕ, _+_, _-_, _*_, _/_}
+use mathlib.Core.Bool.{Bool}
+use mathlib.Core.List.{List, [], _∷_}
+use lib.Dec.{eqb, ltb}
+use lib.ListN.{length, getD, take}
+use Rattle.dshot_reply_spec.specs.Answer.{Answer, given, refused, then, pick, wrongLength, wrongDuty}
+use Rattle.dshot_reply_spec.specs.Move.{bit}
+use Rattle.dshot_spec.specs.Packet.{Frame, readPacket}
+use Rattle.dshot_spec.specs.Tabulate.{tabulate}
+use Rattle.dshot_spec.specs.Timing.{Timing, dutyForBit}
+
+-- whether bit i of a word is 1, the lowest at 0
+abbrev pub isSet : ℕ → ℕ → Bool
+isSet w i = eqb (bit w i) 1
+
+-- ---- a whole frame in 22 slots
+
+-- slot i of a frame: the duty of bit 15 - i, then six zeros
+abbrev pub frameSlot : ℕ → ℕ → ℕ → ℕ
+frameSlot w max i = pick (ltb i 16) (pick (isSet w (15 - i)) (max * 3 / 4) (max * 3 / 8)) 0
+
+-- what a buffer of 22 slots is filled with; another is refused
+unfoldable pub encodedPacket : List ℕ → ℕ → ℕ → Answer (List ℕ)
+encodedPacket out w max = pick (eqb (length out) 22) (given (tabulate 22 (frameSlot w max))) (refused wrongLength)
+
+-- ---- a compare sequence: the first duty, and 16 slots
+
+pub record Sequence : Type 0 where
+  pub first : ℕ
+  pub slots : List ℕ
+
+-- slot i of a sequence: the duty of bit 14 - i, and then a zero, which leaves the output low
+abbrev pub sequenceSlot : Timing → ℕ → ℕ → ℕ
+sequenceSlot t w i = pick (ltb i 15) (dutyForBit t (isSet w (14 - i))) 0
+
+unfoldable pub sequenceOf : Timing → ℕ → Sequence
+sequenceOf t w = record { first = dutyForBit t (isSet w 15); slots = tabulate 16 (sequenceSlot t w) }
+
+-- what a buffer of 16 slots is filled with; another is refused
+unfoldable pub encodedSequence : List ℕ → ℕ → Timing → Answer Sequence
+encodedSequence out w t = pick (eqb (length out) 16) (given (sequenceOf t w)) (refused wrongLength)
+
+-- the first duty, which stands alone
+abbrev pub firstDuty : Answer Sequence → Answer ℕ
+firstDuty a = then a (λ s. given (s .first))
+
+-- ---- the reader
+
+-- the bit that a duty stands for
+abbrev pub dutyBit : Timing → ℕ → Answer ℕ
+dutyBit t d = pick (eqb d (t .oneHigh)) (given 1) (pick (eqb d (t .zeroHigh)) (given 0) (refused wrongDuty))
+
+-- the word of some duties, the first the highest, after the bits of w
+abbrev pub wordFrom : Timing → ℕ → List ℕ → Answer ℕ
+wordFrom t w [] = given w
+wordFrom t w (d ∷ ds) = then (dutyBit t d) (λ b. wordFrom t (2 * w + b) ds)
+
+-- what a sequence says: first its length, then its high times, its closing zero and its duties, then its checksum
+unfoldable pub readSequence : Timing → Sequence → Answer Frame
+readSequence t s =
+    pick (eqb (length (s .slots)) 16)
+    (pick (eqb (t .zeroHigh) (t .oneHigh)) (refused wrongDuty)
+    (pick (eqb (getD (s .slots) 15 0) 0) (then (wordFrom t 0 (s .first ∷ take 15 (s .slots))) readPacket)
+    (refused wrongDuty)))
+    (refused wrongLength)

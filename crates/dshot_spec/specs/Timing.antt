@@ -1,0 +1,45 @@
+-- The timer counts of a frame and of the sampling of replies, from the timer's clock and the bit rate.
+-- Stands for `DshotTiming` of crates/ferrowasp-output/src/dshot.rs (Eirik2020/ferro-wasp, commit 9cb8aca1a6, Copyright (c) 2026 Kaldstrand,
+-- Apache-2.0), changed: rewritten as a definition, with document 01's formulas.
+-- Assumes nothing.
+use Prim.Native.Nat.{ℕ, _+_, _-_, _*_, _/_}
+use mathlib.Core.Bool.{Bool}
+use lib.Dec.{eqb, ltb}
+use Rattle.dshot_reply_spec.specs.Answer.{Answer, given, refused, pick, zeroTimerClock, zeroBitrate, periodTooShort, periodTooLong}
+
+pub record Timing : Type 0 where
+  pub arr : ℕ
+  pub zeroHigh : ℕ
+  pub oneHigh : ℕ
+  pub replySampleArr : ℕ
+
+-- a quotient to the nearest, halves up
+abbrev pub nearest : ℕ → ℕ → ℕ
+nearest a b = (a + b / 2) / b
+
+-- how often replies are sampled, s times a bit: they come at 5/4 of the bit rate
+abbrev pub replySampleHz : ℕ → ℕ → ℕ
+replySampleHz s bitrate = bitrate * (5 * s) / 4
+
+-- the counts of a period p and a reply sample period q
+abbrev pub timingOf : ℕ → ℕ → Timing
+timingOf p q = record { arr = p - 1; zeroHigh = (3 * p + 4) / 8; oneHigh = (3 * p + 2) / 4; replySampleArr = q - 1 }
+
+-- whether periods p and q can be timed
+abbrev pub timed : ℕ → ℕ → Answer Timing
+timed p q =
+    pick (ltb p 4) (refused periodTooShort)
+    (pick (ltb 65536 p) (refused periodTooLong)
+    (pick (ltb q 2) (refused periodTooShort)
+    (given (timingOf p q))))
+
+-- s samples a bit, a timer clock and a bit rate
+unfoldable pub fromClocks : ℕ → ℕ → ℕ → Answer Timing
+fromClocks s clock bitrate =
+    pick (eqb clock 0) (refused zeroTimerClock)
+    (pick (eqb bitrate 0) (refused zeroBitrate)
+    (timed (nearest clock bitrate) (nearest clock (replySampleHz s bitrate))))
+
+-- the high time of a bit
+abbrev pub dutyForBit : Timing → Bool → ℕ
+dutyForBit t set = pick set (t .oneHigh) (t .zeroHigh)
