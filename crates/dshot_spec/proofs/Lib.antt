@@ -1,1 +1,8 @@
+pub mod Tabulated
+pub mod Given
+pub mod TimingLaws
+pub mod PacketReads
+pub mod SequenceReads
+pub mod CommandRuns
+pub mod FrameDocuments
 pub mod FixedPoints
