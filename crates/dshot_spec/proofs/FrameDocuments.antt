@@ -6,7 +6,7 @@ use mathlib.Core.List.{List, [], _∷_, _++_, map}
 use Prim.Native.Nat.{ℕ, zero, suc, _+_, _*_, _-_, _/_, _%_, _^_, _<_}
 use native.Mathlib.Nat.{mod-one}
 use native.Mathlib.Omega.{arith}
-use lib.Bits.{bitXor, xor-mod}
+use lib.Bits.{bitXor}
 use lib.Dec.{eqb, eqb→eq}
 use lib.Pow.{high, low}
 use Rattle.dshot_reply_spec.proofs.Cross.{bit-low}
@@ -15,7 +15,7 @@ use Rattle.dshot_reply_spec.proofs.SimulatedRenders.{low-bits}
 use Rattle.dshot_reply_spec.proofs.Table.{at}
 use Rattle.dshot_reply_spec.specs.Betaflight.{numberFrom}
 use Rattle.dshot_reply_spec.specs.Move.{bit}
-use Rattle.dshot_spec.proofs.PacketReads.{check-lt, checksum-lt, flag-lt, packet-small}
+use Rattle.dshot_spec.proofs.PacketReads.{check-lt, checksum-cut, checksum-lt, flag-lt, packet-small}
 use Rattle.dshot_spec.proofs.SequenceReads.{duties, sequence-duties}
 use Rattle.dshot_spec.specs.Betaflight.{bits, crc, frameBits, request}
 use Rattle.dshot_spec.specs.Packet.{Kind, plain, inverted, checksum, flag, packetWord, payload, sent}
@@ -72,17 +72,8 @@ inverse c h = eqb→eq (15 - c) (bitXor c 15) (at inverse-test 16 tt c h)
 -- the document's checksum is what is sent
 checksums : (k : Kind) (x : ℕ) → crc k x ≡ sent k (checksum x)
 unfolding crc
-checksums k x = go k
-  where
-    two : bitXor x (x / 16) % 16 ≡ bitXor (x % 16) (x / 16 % 16)
-    two = xor-mod x (x / 16) 4
-
-    three : bitXor (bitXor x (x / 16)) (x / 256) % 16 ≡ checksum x
-    three = xor-mod (bitXor x (x / 16)) (x / 256) 4 ∙ ap (λ (n : ℕ). bitXor n (x / 256 % 16)) two
-
-    go : (k : Kind) → crc k x ≡ sent k (checksum x)
-    go plain = three
-    go inverted = ap (λ (n : ℕ). 15 - n) three ∙ inverse (checksum x) (checksum-lt x)
+checksums plain x = checksum-cut x
+checksums inverted x = ap (λ (n : ℕ). 15 - n) (checksum-cut x) ∙ inverse (checksum x) (checksum-lt x)
 
 -- ---- the frame
 

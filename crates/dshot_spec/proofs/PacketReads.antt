@@ -6,7 +6,7 @@ use mathlib.Core.Bool.{Bool, true, false, not}
 use Prim.Native.Nat.{ℕ, zero, suc, _+_, _*_, _/_, _%_, _<_}
 use native.Mathlib.Nat.{mod-mod}
 use native.Mathlib.Omega.{arith}
-use lib.Bits.{bitXor}
+use lib.Bits.{bitXor, xor-mod}
 use lib.Dec.{eqb, lit<}
 use borrow.Author.Tests.{eq-eqb, eqb-true, ne-eqb}
 use Rattle.dshot_reply_spec.proofs.Table.{at}
@@ -42,7 +42,11 @@ pub checksum-lt : (p : ℕ) → checksum p < 16
 checksum-lt p =
     nibble-xor (bitXor (p % 16) (p / 16 % 16)) (p / 256 % 16) (nibble-xor (p % 16) (p / 16 % 16) (omega arith) (omega arith)) (omega arith)
 
--- and so is what is sent of it
+-- to cut the exclusive or of three numbers to a nibble is to cut each of them
+pub checksum-cut : (p : ℕ) → bitXor (bitXor p (p / 16)) (p / 256) % 16 ≡ checksum p
+checksum-cut p = xor-mod (bitXor p (p / 16)) (p / 256) 4 ∙ ap (λ (n : ℕ). bitXor n (p / 256 % 16)) (xor-mod p (p / 16) 4)
+
+-- what is sent of a nibble is a nibble
 pub sent-lt : (k : Kind) (c : ℕ) → c < 16 → sent k c < 16
 sent-lt plain c h = h
 sent-lt inverted c h = nibble-xor c 15 h (lit< tt)

@@ -52,7 +52,7 @@ duties-read t a (suc n) w ne =
     rw (bit-read t (bit w n) ne (omega arith)) (duties-read t (2 * a + bit w n) n w ne ∙ ap given same)
 
 -- a duty that stands for a bit is the duty of that bit
-duty-read : (t : Timing) (d b : ℕ) → dutyBit t d ≡ given b → (b < 2) × (d ≡ dutyForBit t (eqb b 1))
+pub duty-read : (t : Timing) (d b : ℕ) → dutyBit t d ≡ given b → (b < 2) × (d ≡ dutyForBit t (eqb b 1))
 duty-read t d b e =
     ⊎-elim (λ q. is 1 (lit< tt) (eqb-true d (t .oneHigh) (q .0)) (q .1))
     (λ q. let r = first-given wrongDuty (eqb d (t .zeroHigh)) (q .1) in is 0 (lit< tt) (eqb-true d (t .zeroHigh) (r .0)) (r .1))

@@ -1,0 +1,5 @@
+pub mod PacketLaws
+pub mod WrapLaws
+pub mod ClockLaws
+pub mod CommandLaws
+pub mod ReadLaws

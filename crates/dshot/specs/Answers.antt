@@ -1,0 +1,108 @@
+-- The answers of the code in the terms of the definitions: for each case of an enum document 01's number and values, and the fields of a
+-- struct.
+-- Assumes nothing.
+use Prim.Native.Nat.{ℕ}
+use mathlib.Core.List.{List, map}
+use Rattle.dshot_reply_spec.specs.Answer.{Answer, given, refused, zeroTimerClock, zeroBitrate, periodTooShort, periodTooLong, valueOutOfRange, wrongLength, wrongDuty, wrongPacketChecksum}
+use Rattle.dshot_spec.specs.Packet.{Kind, plain, inverted, Frame}
+use Rattle.dshot_spec.specs.Packet as Packet
+use Rattle.dshot_spec.specs.Timing.{Timing}
+use Rattle.dshot_spec.specs.Command.{CommandRun, Command, send, Next}
+use Rattle.dshot_spec.specs.Command as Command
+use Rattle.dshot.specs.declared.DshotFrameError.{DshotFrameError}
+use Rattle.dshot.specs.declared.DshotFrameError.the-variants.{ValueOutOfRange}
+use Rattle.dshot.specs.declared.DshotPacket.{DshotPacket}
+use Rattle.dshot.specs.declared.PacketMade.{PacketMade}
+use Rattle.dshot.specs.declared.PacketMade.the-variants as Made
+use Rattle.dshot.specs.declared.ChecksumKind.{ChecksumKind}
+use Rattle.dshot.specs.declared.ChecksumKind.the-variants.{Plain, Inverted}
+use Rattle.dshot.specs.declared.TelemetryLane.{TelemetryLane}
+use Rattle.dshot.specs.declared.TelemetryLane.the-variants as Lane
+use Rattle.dshot.specs.declared.DshotTimingError.{DshotTimingError}
+use Rattle.dshot.specs.declared.DshotTimingError.the-variants.{ZeroTimerClock, ZeroBitrate, PeriodTooShort, PeriodTooLong}
+use Rattle.dshot.specs.declared.DshotTiming.{DshotTiming}
+use Rattle.dshot.specs.declared.TimingMade.{TimingMade}
+use Rattle.dshot.specs.declared.TimingMade.the-variants as Timed
+use Rattle.dshot.specs.declared.Encoded.{Encoded}
+use Rattle.dshot.specs.declared.Encoded.the-variants as Slots
+use Rattle.dshot.specs.declared.Sequenced.{Sequenced}
+use Rattle.dshot.specs.declared.Sequenced.the-variants as Duties
+use Rattle.dshot.specs.declared.DshotCommandSequence.{DshotCommandSequence}
+use Rattle.dshot.specs.declared.CommandValue.{CommandValue}
+use Rattle.dshot.specs.declared.CommandValue.the-variants as Frames
+use Rattle.dshot.specs.declared.NextValue.{NextValue}
+use Rattle.dshot.specs.declared.read.FrameReadError.{FrameReadError}
+use Rattle.dshot.specs.declared.read.FrameReadError.the-variants as Error
+use Rattle.dshot.specs.declared.read.FrameRead.{FrameRead}
+use Rattle.dshot.specs.declared.read.FrameRead.the-variants as Read
+
+-- ---- packets
+
+abbrev pub frameErrorNumber : DshotFrameError → ℕ
+frameErrorNumber ValueOutOfRange = valueOutOfRange
+
+abbrev pub packetAnswer : PacketMade → Answer ℕ
+packetAnswer (Made.Packet p) = given (p .0)
+packetAnswer (Made.Refused e) = refused (frameErrorNumber e)
+
+abbrev pub kindOf : ChecksumKind → Kind
+kindOf Plain = plain
+kindOf Inverted = inverted
+
+-- the words of some packets
+abbrev pub words : List DshotPacket → List ℕ
+words packets = map (λ (p : DshotPacket). p .0) packets
+
+abbrev pub laneOf : TelemetryLane → Packet.TelemetryLane
+laneOf Lane.None = Packet.none
+laneOf (Lane.Lane n) = Packet.lane n
+
+-- ---- timing
+
+abbrev pub timingErrorNumber : DshotTimingError → ℕ
+timingErrorNumber ZeroTimerClock = zeroTimerClock
+timingErrorNumber ZeroBitrate = zeroBitrate
+timingErrorNumber PeriodTooShort = periodTooShort
+timingErrorNumber PeriodTooLong = periodTooLong
+
+abbrev pub timingOf : DshotTiming → Timing
+timingOf t = record { arr = t .arr; zeroHigh = t .«zero_high»; oneHigh = t .«one_high»; replySampleArr = t .«reply_sample_arr» }
+
+abbrev pub timingAnswer : TimingMade → Answer Timing
+timingAnswer (Timed.Timing t) = given (timingOf t)
+timingAnswer (Timed.Refused e) = refused (timingErrorNumber e)
+
+-- ---- duties
+
+-- the number of a refused buffer, and 0 for one that was filled
+abbrev pub encodedNumber : Encoded → ℕ
+encodedNumber Slots.Written = 0
+encodedNumber Slots.WrongLength = wrongLength
+
+-- the first duty of a sequence
+abbrev pub firstAnswer : Sequenced → Answer ℕ
+firstAnswer (Duties.First d) = given d
+firstAnswer Duties.WrongLength = refused wrongLength
+
+-- ---- commands
+
+abbrev pub runOf : DshotCommandSequence → CommandRun
+runOf s = record { commands = s .commands; index = s .index; repeatsLeft = s .«repeats_left» }
+
+abbrev pub commandOf : CommandValue → Command
+commandOf Frames.None = Command.none
+commandOf (Frames.Value v) = send v
+
+abbrev pub nextOf : NextValue → Next
+nextOf n = record { command = commandOf (n .value); run = runOf (n .sequence) }
+
+-- ---- the readers
+
+abbrev pub readErrorNumber : FrameReadError → ℕ
+readErrorNumber Error.WrongLength = wrongLength
+readErrorNumber Error.WrongDuty = wrongDuty
+readErrorNumber Error.Checksum = wrongPacketChecksum
+
+abbrev pub frameAnswer : FrameRead → Answer Frame
+frameAnswer (Read.Frame value telemetry checksum) = given (record { value = value; telemetry = telemetry; kind = kindOf checksum })
+frameAnswer (Read.Refused e) = refused (readErrorNumber e)
