@@ -5,12 +5,12 @@
 // DShot frames: the packet word of a value, the timer counts and the duties that it is sent as, and runs of special commands.
 
 ghost use mathlib.Core.Path.{_≡_};
-ghost use Prim.Native.Nat.{_+_, _-_, _%_, _<_, min};
+ghost use Prim.Native.Nat.{_+_, _-_, _%_, _≤_, _<_, min};
 ghost use lib.Dec.{ltb};
 ghost use Rattle.dshot_reply_spec.specs.Answer.{refusalNumber, filled, pick};
 ghost use Rattle.dshot_spec.specs.Packet.{plain, inverted, packetWord, tryPacket, checksum, asks, motorPackets};
 ghost use Rattle.dshot_spec.specs.Timing.{nearest, fromClocks, dutyForBit};
-ghost use Rattle.dshot_spec.specs.Sequence.{isSet, encodedPacket, sequenceSlot, encodedSequence, firstDuty};
+ghost use Rattle.dshot_spec.specs.Sequence.{isSet, encodedPacket, encodedSequence, firstDuty};
 ghost use Rattle.dshot_spec.specs.Throttle.{throttleValue, throttleValues};
 ghost use Rattle.dshot_spec.specs.Command.{spinDirection, counted, nextValue};
 ghost use Rattle.dshot_spec.specs.Lease.{leaseExpired};
@@ -260,6 +260,18 @@ pub enum Encoded {
     WrongLength,
 }
 
+impl Encoded {
+    // The number of a refusal in document 01, and 0 where the buffer was filled.
+    pub fn number(self) -> u32
+        ensures { λ r. ⌜ r ≡ encodedNumber self ⌝ }
+    {
+        match self {
+            Encoded::Written => 0,
+            Encoded::WrongLength => 13,
+        }
+    }
+}
+
 fn bit_is_set(packet: DshotPacket, bit_number: usize) -> bool
     requires { ⌜ «bit_number» < 16 ⌝ }
     ensures { λ r. ⌜ r ≡ isSet (packet .0) «bit_number» ⌝ }
@@ -273,12 +285,13 @@ fn chosen(set: bool, one: u16, zero: u16) -> u16
     if set { one } else { zero }
 }
 
-// Slot `index` of a frame: the duty of bit 15 - `index`, and zeros after the last bit.
-fn frame_slot(packet: DshotPacket, duty_0: u16, duty_1: u16, index: usize) -> u16
-    ensures { λ r. ⌜ r ≡ pick (ltb index 16) (pick (isSet (packet .0) (15 - index)) «duty_1» «duty_0») 0 ⌝ }
+// Slot `index` of the lowest `bits` bits of a packet: the duty of a bit, the highest first, and zero after the last.
+fn duty_slot(packet: DshotPacket, bits: usize, zero: u16, one: u16, index: usize) -> u16
+    requires { ⌜ bits ≤ 16 ⌝ }
+    ensures { λ r. ⌜ r ≡ pick (ltb index bits) (pick (isSet (packet .0) (bits - 1 - index)) one zero) 0 ⌝ }
 {
-    if index < DSHOT_BITS {
-        return chosen(bit_is_set(packet, 15 - index), duty_1, duty_0);
+    if index < bits {
+        return chosen(bit_is_set(packet, bits - 1 - index), one, zero);
     }
     0
 }
@@ -295,7 +308,7 @@ pub fn encode_packet(packet: DshotPacket, max_duty: u16, output: &mut [u16]) -> 
     let duty_1 = (max_duty as u32 * 3 / 4) as u16;
     let mut index = 0;
     while index < FRAME_SLOTS {
-        output[index] = frame_slot(packet, duty_0, duty_1, index);
+        output[index] = duty_slot(packet, DSHOT_BITS, duty_0, duty_1, index);
         index += 1;
     }
     Encoded::Written
@@ -305,16 +318,6 @@ pub fn encode_packet(packet: DshotPacket, max_duty: u16, output: &mut [u16]) -> 
 pub enum Sequenced {
     First(u16),
     WrongLength,
-}
-
-// Slot `index` of a sequence: the duty of bit 14 - `index`, and a zero after the last bit.
-fn sequence_slot(packet: DshotPacket, timing: DshotTiming, index: usize) -> u16
-    ensures { λ r. ⌜ r ≡ sequenceSlot (timingOf timing) (packet .0) index ⌝ }
-{
-    if index < DSHOT_BITS - 1 {
-        return timing.duty_for_bit(bit_is_set(packet, 14 - index));
-    }
-    0
 }
 
 // Encodes the compare-event DMA sequence used by STM32 timer PWM preload.
@@ -332,12 +335,15 @@ pub fn encode_compare_sequence(
     if dma_output.len() != COMPARE_DMA_SLOTS {
         return Sequenced::WrongLength;
     }
+    // Read once: a field that is picked in the loop costs a shift of the whole struct.
+    let zero = timing.duty_for_bit(false);
+    let one = timing.duty_for_bit(true);
     let mut index = 0;
     while index < COMPARE_DMA_SLOTS {
-        dma_output[index] = sequence_slot(packet, timing, index);
+        dma_output[index] = duty_slot(packet, DSHOT_BITS - 1, zero, one, index);
         index += 1;
     }
-    Sequenced::First(timing.duty_for_bit(bit_is_set(packet, 15)))
+    Sequenced::First(chosen(bit_is_set(packet, 15), one, zero))
 }
 
 fn at_most(n: u16, most: u16) -> u16

@@ -4,10 +4,12 @@ use Prim.Native.Nat.{ℕ, _+_}
 use mathlib.Core.Path.{_≡_, refl, sym, ap, _∙_}
 use mathlib.Core.List.{List, _++_, append-nil}
 use native.Mathlib.Omega.{arith}
-use lib.ListN.{length, drop-of-length-le}
-use lib.Seq.{sets, sets-eq}
+use lib.ListN.{length, getD, drop-of-length-le}
+use lib.Seq.{ext-getD, sets, sets-eq}
 use borrow.Author.Tests.{eq-eqb, ne-eqb}
-use Rattle.dshot_reply_spec.specs.Answer.{Answer, given, refusalNumber, filled}
+use Rattle.dshot_reply_spec.specs.Answer.{Answer, given, refused, refusalNumber, filled, wrongLength}
+use Rattle.dshot_spec.proofs.Tabulated.{length-tabulate, getD-tabulate}
+use Rattle.dshot_spec.specs.Tabulate.{tabulate}
 use Rattle.kuzhenga.specs.Slots.{asked}
 
 -- every slot set, one after the other
@@ -16,6 +18,40 @@ all-set out xs h =
     sets-eq xs out 0 (omega arith)
     ∙ ap (λ (l : List ℕ). xs ++ l) (drop-of-length-le out {i = 0 + length xs} (omega arith))
     ∙ append-nil xs
+
+-- a call that asks for n slots and is lent another number of them
+pub asked-not : {A : Type 0} (out : List ℕ) (n : ℕ) (a : Answer A) → (length out ≡ n → ⊥) → asked n out a ≡ refused wrongLength
+unfolding asked
+asked-not out n a h = rw (ne-eqb (length out) n h)
+
+-- and one that is lent n
+pub asked-so : {A : Type 0} (out : List ℕ) (n : ℕ) (a : Answer A) → length out ≡ n → asked n out a ≡ a
+unfolding asked
+asked-so out n a h = rw (eq-eqb (length out) n h)
+
+-- a refusal returns its number and leaves a buffer as it was
+pub refused-so : {A : Type 0} {a : Answer A} {n : ℕ} (slots : A → List ℕ) (out : List ℕ) → a ≡ refused n → (n ≡ refusalNumber a) × (out ≡ filled slots out a)
+refused-so slots out e = (sym (ap refusalNumber e), sym (ap (filled slots out) e))
+
+-- what is given returns 0 and is put into the buffer
+pub given-so : {A : Type 0} {a : Answer A} {x : A} (slots : A → List ℕ) (out : List ℕ) {exit : List ℕ} → a ≡ given x → exit ≡ slots x
+    → (0 ≡ refusalNumber a) × (exit ≡ filled slots out a)
+given-so slots out e f = (sym (ap refusalNumber e), f ∙ sym (ap (filled slots out) e))
+
+-- the same of two buffers
+pub refused-both : {A : Type 0} {a : Answer A} {n : ℕ} (f g : A → List ℕ) (xs ys : List ℕ) → a ≡ refused n
+    → (n ≡ refusalNumber a) × ((xs ≡ filled f xs a) × (ys ≡ filled g ys a))
+refused-both f g xs ys e = (sym (ap refusalNumber e), (sym (ap (filled f xs) e), sym (ap (filled g ys) e)))
+
+pub given-both : {A : Type 0} {a : Answer A} {x : A} (f g : A → List ℕ) (xs ys : List ℕ) {left right : List ℕ} → a ≡ given x → left ≡ f x → right ≡ g x
+    → (0 ≡ refusalNumber a) × ((left ≡ filled f xs a) × (right ≡ filled g ys a))
+given-both f g xs ys e h k = (sym (ap refusalNumber e), (h ∙ sym (ap (filled f xs) e), k ∙ sym (ap (filled g ys) e)))
+
+-- a list by its entries
+pub entries : (xs : List ℕ) (n : ℕ) → length xs ≡ n → tabulate n (λ i. getD xs i 0) ≡ xs
+entries xs n h =
+    ext-getD 0 (tabulate n (λ i. getD xs i 0)) xs (length-tabulate (λ i. getD xs i 0) n ∙ sym h)
+    (λ i l. getD-tabulate (λ k. getD xs k 0) n i 0 (omega (arith, length-tabulate (λ (k : ℕ). getD xs k 0) n)))
 
 module _ {A : Type 0} (slots : A → List ℕ) (out : List ℕ) where
   -- the number and the slots at exit of a call that asks for n slots and then answers a

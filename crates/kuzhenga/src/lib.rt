@@ -4,5 +4,7 @@
 // leaves every slot as it was. A call that cannot refuse returns what it was asked for. Numbers are 32 bits wide or a `usize`: a value is taken
 // modulo 4096, of a mask the low sixteen bits count, and a flag of 0 is no, any other yes. No `bool`, enum or struct is passed.
 
+// Packets, timing, duties, throttles, command runs and leases.
+pub mod frame;
 // Replies and the simulated ESC.
 pub mod reply;

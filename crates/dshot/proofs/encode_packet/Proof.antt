@@ -42,8 +42,8 @@ cast-duty-1 c = search needs
 loop-holds : tie.Need-loop-holds Inv-loop μ-loop
 loop-holds c = filled-none (c .if1 .left)
 
-frame-slot-requires : tie.Need-frame-slot-requires Inv-loop μ-loop
-frame-slot-requires c κs = search needs
+duty-slot-requires : tie.Need-duty-slot-requires Inv-loop μ-loop
+duty-slot-requires c κs = search needs
 
 mul-output : tie.Need-mul-output Inv-loop μ-loop
 mul-output c = search needs
@@ -58,7 +58,7 @@ loop-less : tie.Need-loop-less Inv-loop μ-loop
 loop-less c = search needs
 
 loop-again : tie.Need-loop-again Inv-loop μ-loop
-loop-again c = filled-more (c .before .before .loop .inv) (c .before .loop-test .taken) (c .frame-slot .ensures)
+loop-again c = filled-more (c .before .before .loop .inv) (c .before .loop-test .taken) (c .duty-slot .ensures)
 
 same-length : tie.Need-same-length Inv-loop μ-loop
 same-length c = search needs
@@ -84,7 +84,7 @@ encode-packet-spec =
     mul-duty-1
     cast-duty-1
     loop-holds
-    frame-slot-requires
+    duty-slot-requires
     mul-output
     slice-write-output
     add-index
