@@ -1,11 +1,11 @@
-//! The benches: for either side, a pass over the same inputs.
+//! The benches on replies: for either side, a pass over the same inputs.
 
 use crate::calls::{library_decode, library_reading};
 use crate::calls::{original_decode, original_decode_gcr, original_reading};
 use crate::exports::kuzhenga_decode_gcr;
 use crate::inputs::{self, MASK};
 use crate::{library, original};
-use dshot_reply::DshotReplyError;
+use ferrowasp_output::dshot_reply::DshotReplyError;
 use std::hint::black_box;
 use std::rc::Rc;
 
@@ -19,13 +19,14 @@ pub struct Bench {
 
 /// A pass gives every input and takes every answer through `black_box`, so that no call can be
 /// left out or worked out beforehand. The slots are those that the library writes into.
-fn pass<T: 'static, A, const N: usize>(
+pub fn pass<T: 'static, S: Copy + 'static, A>(
     inputs: &Rc<[T]>,
-    call: impl Fn(&T, &mut [u16; N]) -> A + 'static,
+    slots: S,
+    call: impl Fn(&T, &mut S) -> A + 'static,
 ) -> Box<dyn Fn()> {
     let inputs = inputs.clone();
     Box::new(move || {
-        let mut slots = [0; N];
+        let mut slots = slots;
         for input in inputs.iter() {
             black_box(call(black_box(input), black_box(&mut slots)));
         }
@@ -45,7 +46,10 @@ fn readings(name: &'static str, windows: Vec<Window>) -> Bench {
     Bench {
         name,
         calls: windows.len(),
-        sides: [pass(&windows, original), pass(&windows, library)],
+        sides: [
+            pass(&windows, [0; 3], original),
+            pass(&windows, [0; 3], library),
+        ],
     }
 }
 
@@ -58,7 +62,10 @@ fn decodings(name: &'static str, words: Vec<u32>) -> Bench {
     Bench {
         name,
         calls,
-        sides: [pass(&lists, original), pass(&lists, library)],
+        sides: [
+            pass(&lists, [0; 0], original),
+            pass(&lists, [0; 0], library),
+        ],
     }
 }
 
@@ -80,7 +87,10 @@ fn single_decodings(name: &'static str, words: Vec<u32>) -> Bench {
     Bench {
         name,
         calls: words.len(),
-        sides: [pass(&words, original), pass(&words, library)],
+        sides: [
+            pass(&words, [0; 1], original),
+            pass(&words, [0; 1], library),
+        ],
     }
 }
 

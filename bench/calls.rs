@@ -1,8 +1,9 @@
-//! The calls that are measured, each side through one function that is not inlined. The library
-//! writes into slots that its host keeps and lends again and again; the source returns its answer.
+//! The calls on replies that are measured, each side through one function that is not inlined. The
+//! library writes into slots that its host keeps and lends again and again; the source returns its
+//! answer.
 
 use crate::exports::kuzhenga_decode_sampled_reply;
-use dshot_reply::{DshotReply, DshotReplyError};
+use ferrowasp_output::dshot_reply::{self, DshotReply, DshotReplyError};
 
 #[inline(never)]
 pub fn original_reading(

@@ -1,10 +1,10 @@
-//! What is measured: windows of 160 samples, and words. Each set has many different ones, so that
-//! a branch predictor cannot foresee them.
+//! What is measured of replies: windows of 160 samples, and words. Each set has many different
+//! ones, so that a branch predictor cannot foresee them.
 
 use crate::captures::{clean, exact, levels, noisy, Ending};
 use crate::random::Random;
 use crate::rendering;
-use dshot_reply::{reply_transitions_for, REPLY_WINDOW_SAMPLES};
+use ferrowasp_output::dshot_reply::{reply_transitions_for, REPLY_WINDOW_SAMPLES};
 
 /// The pin that is read.
 pub const MASK: u16 = 1 << 5;

@@ -3,6 +3,9 @@
 
 mod benches;
 mod calls;
+mod frame_benches;
+mod frame_inputs;
+mod frames;
 mod inputs;
 mod instructions;
 mod time;
@@ -18,6 +21,9 @@ mod captures;
 #[path = "../tools/compare/exports.rs"]
 mod exports;
 #[allow(dead_code)]
+#[path = "../tools/compare/frame_original.rs"]
+mod frame_original;
+#[allow(dead_code)]
 #[path = "../tools/compare/library.rs"]
 mod library;
 #[allow(dead_code)]
@@ -30,12 +36,20 @@ mod random;
 #[path = "../tools/compare/rendering.rs"]
 mod rendering;
 
+use benches::Bench;
 use std::process::ExitCode;
 
 const HEAD: [&str; 2] = [
     "                                 original   library          original   library",
     "a call of                              ns        ns  ratio     instr.    instr.  ratio",
 ];
+
+fn all() -> Vec<Bench> {
+    benches::all()
+        .into_iter()
+        .chain(frame_benches::all())
+        .collect()
+}
 
 /// Without numbers it prints the table. It gets numbers where it runs itself: a bench to time, or a
 /// bench, a side and how many passes to make.
@@ -44,11 +58,11 @@ fn main() -> ExitCode {
     let numbers: Vec<usize> = words.flat_map(|word| word.parse()).collect();
     match numbers[..] {
         [bench] => {
-            let [original, library] = time::here(&benches::all()[bench]);
+            let [original, library] = time::here(&all()[bench]);
             println!("{original} {library}");
         }
         [bench, side, passes] => {
-            let benches = benches::all();
+            let benches = all();
             (0..passes).for_each(|_| benches[bench].sides[side]());
         }
         _ => return table(),
@@ -57,12 +71,12 @@ fn main() -> ExitCode {
 }
 
 fn table() -> ExitCode {
-    if !benches::agree() {
+    if !benches::agree() || !frame_benches::agree() {
         eprintln!("the library and the original do not agree");
         return ExitCode::FAILURE;
     }
     println!("{}", HEAD.join("\n"));
-    for (number, bench) in benches::all().iter().enumerate() {
+    for (number, bench) in all().iter().enumerate() {
         let ns = time::nanoseconds(number);
         let instructions = instructions::each_call(bench, number);
         let (Some(ns), Some(instructions)) = (ns, instructions) else {

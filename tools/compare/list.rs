@@ -1,19 +1,35 @@
 //! Writes the stored list that a test program replays: one record a line, numbers in decimal.
-//! Records 1 to 5 hold the source's answers, 6 and 7 those of document 01's sentences. This program
-//! is not linked with the library, so no answer of the library can get into the list.
+//! Records 1 to 5 and 8 to 19 hold the source's answers; records 6, 7, 20 and 21, and each refusal
+//! 13, hold those of document 01's sentences. This program is not linked with the library, so no
+//! answer of the library can get into the list.
 
 mod answer;
 mod captures;
 mod damage;
+// The list has whole runs of commands, and no single step of one.
+#[allow(dead_code)]
+mod frame_call;
+mod frame_original;
+mod frame_records;
+mod frame_right;
 mod list_captures;
+mod list_clocks;
+mod list_commands;
 mod list_finding;
+mod list_frames;
+mod list_packets;
 mod list_random;
+mod list_random_frames;
+mod list_readers;
+mod list_sequences;
 mod list_values;
 mod original;
 mod plain;
+mod plain_frames;
 mod random;
 mod random_captures;
 mod records;
+mod timings;
 
 const FORMS: &str = "\
 # Made by `tools/compare/run FOLDER --list` from the source at commit 9cb8aca1a6.
@@ -24,7 +40,22 @@ const FORMS: &str = "\
 # 5 MASK EDT RUNS (SAMPLE TIMES)*RUNS REFUSAL KIND NUMBER: decode_sampled_reply
 # 6 PERIOD REFUSAL VALUE: period_value
 # 7 LENGTH VALUE LEAD MASK REFUSAL RUNS (SAMPLE TIMES)*RUNS: simulate_reply, samples 43690 before
-# What a refusal leaves out is 0. A capture is given as runs of equal samples.";
+# 8 VALUE TELEMETRY REFUSAL PACKET: try_from_value
+# 9 VALUE TELEMETRY PACKET: from_value
+# 10 VALUE TELEMETRY PACKET: from_value_bidirectional
+# 11 ASKED LANE VALUE*4 PACKET*4: four_motor_packets, no telemetry lane where ASKED is 0
+# 12 ASKED LANE VALUE*4 PACKET*4: four_motor_bidirectional_packets
+# 13 CLOCK RATE REFUSAL ARR ZERO ONE SAMPLE: from_clocks
+# 14 PACKET DUTY REFUSAL SLOT*: encode_packet, as many slots as it is lent, 43690 before
+# 15 PACKET ARR ZERO ONE SAMPLE REFUSAL FIRST SLOT*: encode_compare_sequence, likewise
+# 16 THROTTLE VALUE: throttle_to_dshot
+# 17 THROTTLE*4 VALUE*4: throttles_to_dshot
+# 18 REVERSED (GIVEN COMMAND)*: next_value again and again, no command where GIVEN is 0
+# 19 STARTED DURATION NOW EXPIRED: command_lease_expired
+# 20 PACKET REFUSAL VALUE TELEMETRY CHECKSUM: read_packet, checksum 0 plain and 1 inverted
+# 21 FIRST ARR ZERO ONE SAMPLE REFUSAL VALUE TELEMETRY CHECKSUM SLOT*: read_compare_sequence
+# What a refusal leaves out is 0, but for slots, which stay as they were. A capture is given as runs
+# of equal samples.";
 
 fn main() {
     println!("{FORMS}");
@@ -32,4 +63,5 @@ fn main() {
     list_captures::groups();
     list_finding::groups();
     list_random::groups();
+    list_frames::groups();
 }

@@ -1,8 +1,8 @@
-//! The source's calls, with its enums turned into document 01's numbers. It takes the wide numbers
-//! of the library's calls, of which the source's narrower types keep the low bits.
+//! The source's calls on replies, with its enums turned into document 01's numbers. It takes the
+//! wide numbers of the library's calls, of which the source's narrower types keep the low bits.
 
 use crate::answer::Answer;
-use dshot_reply::{DshotReply, DshotReplyError};
+use ferrowasp_output::dshot_reply::{self, DshotReply, DshotReplyError};
 
 fn refused(error: DshotReplyError) -> Answer {
     Answer::refused(match error {

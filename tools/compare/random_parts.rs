@@ -3,20 +3,10 @@
 use crate::random::Random;
 use crate::random_captures::{faulty, length, mask, random_runs, LONGEST};
 use crate::tally::Tally;
-use crate::{capture_check, captures};
-
-const THREADS: u64 = 2;
+use crate::{capture_check, captures, threads};
 
 pub fn captures(count: u64) -> Tally {
-    let share = |thread| (count + thread) / THREADS;
-    std::thread::scope(|scope| {
-        let start = |thread| scope.spawn(move || some(share(thread), Random::new(8 + thread)));
-        let threads: Vec<_> = (0..THREADS).map(start).collect();
-        let found = threads
-            .into_iter()
-            .map(|thread| thread.join().expect("a thread ends"));
-        found.reduce(Tally::join).expect("there are threads")
-    })
+    threads::shared(count, 8, some)
 }
 
 fn some(count: u64, mut random: Random) -> Tally {

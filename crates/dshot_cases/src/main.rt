@@ -1,0 +1,63 @@
+// Replays stored answers of the calls of dshot_reply and dshot: makes each call again, and reports the records whose answer differs.
+//
+// The list of records comes on standard input, as text of at most 65535 bytes. A line holds one record or none. A record is unsigned decimal
+// numbers with spaces between them, and its first number is the kind of call; `records.rt` says where each kind is. `#` starts a comment,
+// up to the end of its line. A record that cannot be read ends the run.
+
+mod answers;
+mod capture;
+mod commands;
+mod frame_answers;
+mod frames;
+mod numbers;
+mod records;
+mod report;
+mod sequences;
+mod verdict;
+
+use crate::report::KINDS;
+use crate::verdict::Verdict;
+use libc::STDIN_FILENO;
+
+// Replays the record of a line, if it has one; false where the run ends there.
+fn replay_line(
+    line: &[u8],
+    number: u64,
+    compared: &mut [u64; KINDS],
+    differing: &mut [u64; KINDS],
+) -> bool {
+    let mut held = numbers::buffer();
+    let read = numbers::read_line(line, &mut held);
+    if !read.is_readable {
+        return report::enter(Verdict::Unreadable, 0, number, compared, differing);
+    }
+    let n = read.numbers;
+    let verdict = records::replay(&held[0..n]);
+    report::enter(verdict, held[0], number, compared, differing)
+}
+
+fn replay_list(text: &[u8]) {
+    let mut compared = [0u64; KINDS];
+    let mut differing = [0u64; KINDS];
+    let mut number: u64 = 0;
+    let mut at: usize = 0;
+    while at < text.len() {
+        let end = numbers::find(text, at, b'\n');
+        number = report::one_more(number);
+        if !replay_line(&text[at..end], number, &mut compared, &mut differing) {
+            return;
+        }
+        at = end + 1;
+    }
+    report::counts(&compared, &differing);
+}
+
+fn main() {
+    let mut text = io::large_buffer();
+    let n = io::read_full(STDIN_FILENO, &mut text);
+    if n == text.len() {
+        report::too_long();
+        return;
+    }
+    replay_list(&text[..n]);
+}

@@ -1,0 +1,80 @@
+//! Parts 10 and 11: packets of all values, and what all words say.
+
+use crate::frame_call::Call;
+use crate::frame_check::frame;
+use crate::random::Random;
+use crate::tally::Tally;
+
+fn each_packet(tally: &mut Tally, value: u32, telemetry: u32) {
+    frame(tally, Call::FromValue(value, telemetry));
+    frame(tally, Call::Bidirectional(value, telemetry));
+    frame(tally, Call::TryFromValue(value, telemetry));
+}
+
+pub fn packets() -> Tally {
+    let mut tally = Tally::new("10 packets, all 16-bit values with both telemetry bits");
+    for value in 0..1 << 16 {
+        each_packet(&mut tally, value, 0);
+        each_packet(&mut tally, value, 1);
+    }
+    tally
+}
+
+/// Of a wide value the low 11 bits count, or it is refused; every flag but 0 is yes.
+pub fn wide_packets() -> Tally {
+    let mut tally = Tally::new("10 packets of wide values");
+    let mut random = Random::new(10);
+    let limits = [2048, 65536, 65536 + 2047, 67584, 1 << 31, u32::MAX];
+    let numbers = (0..100_000).map(|_| random.word() >> random.below(16));
+    for (number, value) in limits.into_iter().chain(numbers).enumerate() {
+        each_packet(&mut tally, value, 0);
+        each_packet(&mut tally, value, 1 << (number % 32));
+        each_packet(&mut tally, value, u32::MAX);
+    }
+    tally
+}
+
+/// Lanes whose low bits are those of a lane mark none, and `usize::MAX` stands for none.
+const LANES: [usize; 11] = [
+    0,
+    1,
+    2,
+    3,
+    4,
+    255,
+    256,
+    1 << 16,
+    1 << 32,
+    usize::MAX - 1,
+    usize::MAX,
+];
+
+pub fn four_motors() -> Tally {
+    let mut tally = Tally::new("10 packets of four motors, random values");
+    let mut random = Random::new(11);
+    for _ in 0..50_000 {
+        let shift = random.below(8);
+        let values = [(); 4].map(|()| random.word() as u16 >> shift);
+        for lane in LANES {
+            frame(&mut tally, Call::FourMotors(values, lane));
+            frame(&mut tally, Call::FourBidirectional(values, lane));
+        }
+    }
+    tally
+}
+
+/// The source reads no packet: what a word says is that of which the source makes it.
+pub fn words() -> Tally {
+    let mut tally = Tally::new("11 read_packet, all words, against the packets of the source");
+    let mut random = Random::new(12);
+    let mut read = 0;
+    for word in 0..1 << 16 {
+        let answer = frame(&mut tally, Call::ReadPacket(word));
+        read += u64::from(answer.returned == 0);
+        // The low 16 bits count.
+        let high = random.word() << 16;
+        frame(&mut tally, Call::ReadPacket(high | word));
+    }
+    tally.expect("words read", read, 2 * 2 * 2048);
+    tally
+}
