@@ -35,10 +35,10 @@ pub fn original_sequences(set: &Set, timing: DshotTiming, out: &mut Sequences) {
 extern "C" {
     fn bench_four_sequences(
         values: *const u16,
-        n: usize,
-        telemetry_lane: usize,
-        timing: *const u16,
         four: usize,
+        telemetry_lane: usize,
+        zero_high: u16,
+        one_high: u16,
         slots: *mut u16,
         sixty_four: usize,
         firsts: *mut u16,
@@ -52,7 +52,8 @@ pub fn library_sequences(set: &Set, timing: &[u16; 4], out: &mut Sequences) -> u
     let (values, lane) = (set.values.as_ptr(), set.lane_number());
     let slots = out.slots.as_flattened_mut().as_mut_ptr();
     let firsts = out.firsts.as_mut_ptr();
-    unsafe { bench_four_sequences(values, 4, lane, timing.as_ptr(), 4, slots, 64, firsts, 4) }
+    let [_, zero_high, one_high, _] = *timing;
+    unsafe { bench_four_sequences(values, 4, lane, zero_high, one_high, slots, 64, firsts, 4) }
 }
 
 #[inline(never)]

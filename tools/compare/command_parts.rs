@@ -61,6 +61,16 @@ pub fn other_runs() -> Tally {
             let [direction, save] = [(); 2].map(|()| random.word() as u16);
             let run = [direction, save, index, repeats_left];
             frame(&mut tally, Call::NextValue(run));
+            // A slot holds more than a byte: such an index is past the end, of such a count the
+            // low byte counts.
+            let [index, repeats_left] =
+                [index, repeats_left].map(|byte| random.word() as u16 & !255 | byte);
+            let run = [direction, save, index % 3, repeats_left];
+            frame(&mut tally, Call::NextValue(run));
+            frame(
+                &mut tally,
+                Call::NextValue([direction, save, index, repeats_left]),
+            );
         }
     }
     tally

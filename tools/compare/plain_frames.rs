@@ -53,7 +53,7 @@ pub fn next_value(run: [u16; 4]) -> ([u16; 4], [u16; 2]) {
         1 => save,
         _ => return (run, [0, 0]),
     };
-    let after = match (repeats_left + 255) % 256 {
+    let after = match repeats_left.wrapping_sub(1) % 256 {
         0 => [direction, save, index + 1, 10],
         left => [direction, save, index, left],
     };

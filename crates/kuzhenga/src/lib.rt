@@ -1,8 +1,9 @@
 // The library for C: one archive of exported functions on numbers and slices.
 //
 // Each checks the number of slots that it is lent, and returns the number of its refusal in document 01, or 0 when it is done; a refused call
-// leaves every slot as it was. A call that cannot refuse returns what it was asked for. Numbers are 32 bits wide or a `usize`: a value is taken
-// modulo 4096, of a mask the low sixteen bits count, and a flag of 0 is no, any other yes. No `bool`, enum or struct is passed.
+// leaves every slot as it was. A call that cannot refuse returns what it was asked for. Numbers are 32 bits wide or a `usize`, clocks in
+// milliseconds 64 bits; where one is wider than what it stands for, the call says what counts. A flag of 0 is no, any other yes. No `bool`, enum
+// or struct is passed.
 
 // Packets, timing, duties, throttles, command runs and leases.
 pub mod frame;

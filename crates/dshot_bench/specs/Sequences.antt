@@ -1,0 +1,37 @@
+-- The sequences of four packets, one after the other, as the bench asks for them.
+-- Assumes nothing.
+use Prim.Native.Nat.{ℕ, zero, suc}
+use mathlib.Core.List.{List, [], _++_}
+use lib.Dec.{eqb}
+use lib.ListN.{length, getD}
+use Rattle.dshot_reply_spec.specs.Answer.{Answer, given, refused, pick, wrongLength}
+use Rattle.dshot_spec.specs.Packet.{inverted, TelemetryLane, motorPackets}
+use Rattle.dshot_spec.specs.Sequence.{sequenceOf}
+use Rattle.dshot_spec.specs.Tabulate.{tabulate}
+use Rattle.dshot_spec.specs.Timing.{Timing}
+
+-- a timing of which only the high times matter
+abbrev pub timingOfHighs : ℕ → ℕ → Timing
+timingOfHighs low high = record { arr = 0; zeroHigh = low; oneHigh = high; replySampleArr = 0 }
+
+-- the words of the packets, if every buffer has its length
+unfoldable pub built : List ℕ → TelemetryLane → List ℕ → List ℕ → Answer (List ℕ)
+built values telemetryLane slots firsts =
+    pick (eqb (length values) 4)
+    (pick (eqb (length slots) 64)
+    (pick (eqb (length firsts) 4) (given (motorPackets 4 inverted values telemetryLane)) (refused wrongLength))
+    (refused wrongLength))
+    (refused wrongLength)
+
+-- f 0, f 1, .. f (n - 1), joined
+unfoldable pub joined : ℕ → (ℕ → List ℕ) → List ℕ
+joined zero f = []
+joined (suc n) f = joined n f ++ f n
+
+-- the slots of the words' sequences
+abbrev pub slotsOf : Timing → List ℕ → List ℕ
+slotsOf t words = joined 4 (λ i. sequenceOf t (getD words i 0) .slots)
+
+-- their first duties
+abbrev pub firstsOf : Timing → List ℕ → List ℕ
+firstsOf t words = tabulate 4 (λ i. sequenceOf t (getD words i 0) .first)
