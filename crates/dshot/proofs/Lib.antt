@@ -3,3 +3,4 @@ pub mod WrapLaws
 pub mod ClockLaws
 pub mod CommandLaws
 pub mod ReadLaws
+pub mod Injective

@@ -202,15 +202,16 @@ pub enum TimingMade {
 }
 
 impl DshotTiming {
-    // The shortest and the longest period, in ticks of the timer.
+    // The limits of the period, in ticks of the timer. The limit of the sample period refuses a period of 4 too (`shortest-period` in
+    // dshot_spec/proofs/TimingLaws.antt).
     pub const MIN_PERIOD: u32 = 4;
 
     pub const MAX_PERIOD: u32 = 65536;
-    // The shortest period of reply samples, in ticks of the timer.
+    // The lower limit of the period of reply samples, in ticks of the timer.
     pub const MIN_REPLY_SAMPLE_PERIOD: u64 = 2;
 
     // The source also refuses a high time of zero, or one as long as the period. None is, from the shortest period on (`high-times` in
-    // dshot_spec/proofs/Timing.antt).
+    // dshot_spec/proofs/TimingLaws.antt).
     pub fn from_clocks(timer_hz: u32, bitrate_hz: u32) -> TimingMade
         ensures { λ r. ⌜ timingAnswer r ≡ fromClocks 3 «timer_hz» «bitrate_hz» ⌝ }
     {
@@ -387,7 +388,7 @@ pub const DSHOT_CMD_SPIN_DIRECTION_REVERSED: u16 = 21;
 pub const DSHOT_COMMAND_REPEATS: u8 = 10;
 
 // A short run of special-command frames for one motor, e.g. "set direction, then save". Each call to `next_value` yields the value for the next
-// frame until the run is spent. Any fields make a run: a count of 0, which no run reaches, is taken for 256.
+// frame until the run is spent. Any fields make a run: a count of 0, which no run of `spin_direction` reaches, is taken for 256.
 pub struct DshotCommandSequence {
     pub commands: [u16; 2],
     pub index: u8,
@@ -458,8 +459,8 @@ impl DshotCommandSequence {
 
 // Returns true once a bounded command lease is older than its duration.
 //
-// Timestamps are a `u64` millisecond count, which does not wrap. The subtraction still wraps, so a `now_ms` read before `started_ms` - out of
-// order - counts as expired, the conservative answer.
+// Timestamps are a `u64` millisecond count. The subtraction wraps, so a `now_ms` read before `started_ms` - out of order - counts as expired,
+// the conservative answer, unless the wrapped difference is within the lease.
 pub fn command_lease_expired(started_ms: u64, duration_ms: u32, now_ms: u64) -> bool
     ensures { λ r. ⌜ r ≡ leaseExpired «started_ms» «duration_ms» «now_ms» ⌝ }
 {

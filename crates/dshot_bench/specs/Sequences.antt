@@ -10,9 +10,9 @@ use Rattle.dshot_spec.specs.Sequence.{sequenceOf}
 use Rattle.dshot_spec.specs.Tabulate.{tabulate}
 use Rattle.dshot_spec.specs.Timing.{Timing}
 
--- a timing of which only the high times matter
-abbrev pub timingOfHighs : ℕ → ℕ → Timing
-timingOfHighs low high = record { arr = 0; zeroHigh = low; oneHigh = high; replySampleArr = 0 }
+-- a timing by its counts
+abbrev pub timingOfCounts : ℕ → ℕ → ℕ → ℕ → Timing
+timingOfCounts arr low high sample = record { arr = arr; zeroHigh = low; oneHigh = high; replySampleArr = sample }
 
 -- the words of the packets, if every buffer has its length
 unfoldable pub built : List ℕ → TelemetryLane → List ℕ → List ℕ → Answer (List ℕ)

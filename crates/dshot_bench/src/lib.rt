@@ -13,7 +13,7 @@ ghost use Rattle.dshot_reply_spec.specs.Answer.{refusalNumber, filled};
 ghost use Rattle.dshot_spec.specs.Packet.{lane};
 ghost use Rattle.dshot_spec.specs.Sequence.{sequenceOf};
 ghost use Rattle.dshot.specs.Answers.{timingOf};
-ghost use Rattle.dshot_bench.specs.Sequences.{timingOfHighs, built, firstsOf, slotsOf};
+ghost use Rattle.dshot_bench.specs.Sequences.{timingOfCounts, built, firstsOf, slotsOf};
 
 // Puts the sequence of a packet into its lane's part of the slots, and its first duty beside it.
 fn put_sequence(
@@ -42,14 +42,16 @@ fn put_sequence(
 pub extern "C" fn bench_four_sequences(
     values: &[u16],
     telemetry_lane: usize,
+    arr: u16,
     zero_high: u16,
     one_high: u16,
+    reply_sample_arr: u16,
     slots: &mut [u16],
     firsts: &mut [u16],
 ) -> u32
     ensures { λ r. ⌜ r ≡ refusalNumber (built (now (values .entry)) (lane «telemetry_lane») (now (slots .entry)) (now (firsts .entry))) ⌝ }
-    ensures { λ r. ⌜ now (slots .exit) ≡ filled (slotsOf (timingOfHighs «zero_high» «one_high»)) (now (slots .entry)) (built (now (values .entry)) (lane «telemetry_lane») (now (slots .entry)) (now (firsts .entry))) ⌝ }
-    ensures { λ r. ⌜ now (firsts .exit) ≡ filled (firstsOf (timingOfHighs «zero_high» «one_high»)) (now (firsts .entry)) (built (now (values .entry)) (lane «telemetry_lane») (now (slots .entry)) (now (firsts .entry))) ⌝ }
+    ensures { λ r. ⌜ now (slots .exit) ≡ filled (slotsOf (timingOfCounts arr «zero_high» «one_high» «reply_sample_arr»)) (now (slots .entry)) (built (now (values .entry)) (lane «telemetry_lane») (now (slots .entry)) (now (firsts .entry))) ⌝ }
+    ensures { λ r. ⌜ now (firsts .exit) ≡ filled (firstsOf (timingOfCounts arr «zero_high» «one_high» «reply_sample_arr»)) (now (firsts .entry)) (built (now (values .entry)) (lane «telemetry_lane») (now (slots .entry)) (now (firsts .entry))) ⌝ }
 {
     if values.len() != 4 {
         return 13;
@@ -61,10 +63,10 @@ pub extern "C" fn bench_four_sequences(
         return 13;
     }
     let timing = DshotTiming {
-        arr: 0,
+        arr,
         zero_high,
         one_high,
-        reply_sample_arr: 0,
+        reply_sample_arr,
     };
     let packets = dshot::four_motor_bidirectional_packets(
         [values[0], values[1], values[2], values[3]],

@@ -1,6 +1,7 @@
 pub mod Table
 pub mod Cases
 pub mod Choice
+pub mod Answered
 pub mod XorLaws
 pub mod GcrLaws
 pub mod Decode

@@ -10,12 +10,7 @@ use lib.ListN.{length, replicate, length-append}
 use lib.Seq.{append-snoc, getD-append-seam}
 use borrow.Author.Tests.{le-ltb, lt-ltb, ne-eqb}
 use Rattle.dshot_reply_spec.specs.Answer.{pick}
-use Rattle.dshot_spec.specs.Command.{Command, CommandRun, Next, none, send, counted, nextValue, sentBy, spinDirection}
-
--- each command r times, in order
-abbrev pub repeated : ℕ → List ℕ → List Command
-repeated r [] = []
-repeated r (c ∷ cs) = replicate r (send c) ++ repeated r cs
+use Rattle.dshot_spec.specs.Command.{Command, CommandRun, Next, none, send, counted, nextValue, repeated, sentBy, spinDirection}
 
 -- the run with some commands behind it, and the rest to come
 abbrev runAt : List ℕ → List ℕ → ℕ → CommandRun

@@ -15,7 +15,7 @@ use Rattle.dshot_spec.specs.Timing.{fromClocks}
 pub fixed-points : Hold fixedPoints
 unfolding packetWord fromClocks throttleValue replyWord wordOf replyOf speedValue speedOf readingOf
 fixed-points =
-    (refl, (refl, (refl, (refl, (refl, (refl, (refl, (refl, (refl, (refl, (refl, (refl, (refl, (refl, (refl, (refl, (refl, (refl, (refl, (refl, (edge, tt)))))))))))))))))))))
+    (refl, (refl, (refl, (refl, (refl, (refl, (refl, (refl, (refl, (refl, (refl, (refl, (refl, (refl, (refl, (refl, (refl, (refl, (refl, (refl, (refl, (refl, (edge, tt)))))))))))))))))))))))
   where
     edge : Moved (replyWord 0x190) (replyWord 0x800) 15 14
     edge = record { from = lit< tt; to = lit< tt; beside = inr refl; edge = refl; free = refl; moved = refl }

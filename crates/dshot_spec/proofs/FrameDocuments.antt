@@ -18,7 +18,7 @@ use Rattle.dshot_reply_spec.specs.Move.{bit}
 use Rattle.dshot_spec.proofs.PacketReads.{check-lt, checksum-cut, checksum-lt, flag-lt, packet-small}
 use Rattle.dshot_spec.proofs.SequenceReads.{duties, sequence-duties}
 use Rattle.dshot_spec.specs.Betaflight.{bits, crc, frameBits, request}
-use Rattle.dshot_spec.specs.Packet.{Kind, plain, inverted, checksum, flag, packetWord, payload, sent}
+use Rattle.dshot_spec.specs.Packet.{Kind, plain, inverted, checksum, flag, isInverted, packetWord, payload, sent}
 use Rattle.dshot_spec.specs.Sequence.{sequenceOf}
 use Rattle.dshot_spec.specs.Timing.{Timing, dutyForBit}
 
@@ -70,7 +70,7 @@ unfolding inverse-test
 inverse c h = eqb→eq (15 - c) (bitXor c 15) (at inverse-test 16 tt c h)
 
 -- the document's checksum is what is sent
-checksums : (k : Kind) (x : ℕ) → crc k x ≡ sent k (checksum x)
+checksums : (k : Kind) (x : ℕ) → crc (isInverted k) x ≡ sent k (checksum x)
 unfolding crc
 checksums plain x = checksum-cut x
 checksums inverted x = ap (λ (n : ℕ). 15 - n) (checksum-cut x) ∙ inverse (checksum x) (checksum-lt x)
@@ -78,7 +78,7 @@ checksums inverted x = ap (λ (n : ℕ). 15 - n) (checksum-cut x) ∙ inverse (c
 -- ---- the frame
 
 -- the bits of the document are those of the packet word
-pub bits-sent : (k : Kind) (v : ℕ) (t : Bool) → v < 2048 → frameBits k v t ≡ bits 16 (packetWord k v t)
+pub bits-sent : (k : Kind) (v : ℕ) (t : Bool) → v < 2048 → frameBits (isInverted k) v t ≡ bits 16 (packetWord k v t)
 unfolding frameBits packetWord
 bits-sent k v t h =
     let p = payload v t in
@@ -88,11 +88,11 @@ bits-sent k v t h =
     let load : p ≡ v * 2 ^ 1 + flag t = omega arith in
     let twelve : bits 12 p ≡ bits 11 v ++ (request t ∷ []) =
     ap (bits 12) load ∙ bits-joined 11 1 v (flag t) (flag-lt t) ∙ ap (λ (l : List ℕ). bits 11 v ++ l) (request-bit t) in
-    ap (λ (n : ℕ). bits 11 v ++ (request t ∷ bits 4 n)) (ap (crc k) q ∙ checksums k p)
+    ap (λ (n : ℕ). bits 11 v ++ (request t ∷ bits 4 n)) (ap (crc (isInverted k)) q ∙ checksums k p)
     ∙ sym (ap (bits 16) word ∙ bits-joined 12 4 p c (check-lt k p) ∙ ap (λ (l : List ℕ). l ++ bits 4 c) twelve)
 
 -- the packet word is the bits of the document as a number
-pub packet-sent : (k : Kind) (v : ℕ) (t : Bool) → v < 2048 → packetWord k v t ≡ numberFrom 0 (frameBits k v t)
+pub packet-sent : (k : Kind) (v : ℕ) (t : Bool) → v < 2048 → packetWord k v t ≡ numberFrom 0 (frameBits (isInverted k) v t)
 packet-sent k v t h =
     sym (ap (numberFrom 0) (bits-sent k v t h) ∙ bits-number 0 (packetWord k v t) 16 ∙ omega (arith, packet-small k v t))
 
@@ -105,7 +105,7 @@ duties-bits tm (suc n) w = ap (λ (l : List ℕ). dutyForBit tm (eqb (bit w n) 1
 -- the duties that are sent are those of the bits of the document, in their order, and then a zero
 pub duties-sent : (tm : Timing) (k : Kind) (v : ℕ) (t : Bool) → v < 2048
     → sequenceOf tm (packetWord k v t) .first ∷ sequenceOf tm (packetWord k v t) .slots
-    ≡ map (λ (b : ℕ). dutyForBit tm (eqb b 1)) (frameBits k v t) ++ (0 ∷ [])
+    ≡ map (λ (b : ℕ). dutyForBit tm (eqb b 1)) (frameBits (isInverted k) v t) ++ (0 ∷ [])
 duties-sent tm k v t h =
     let w = packetWord k v t in
     sequence-duties tm w

@@ -89,7 +89,12 @@ sequence-reads t k v b h ne =
     ∙ ap (λ (a : Answer ℕ). then a readPacket) (duties-read t 0 16 w ne ∙ ap given whole)
     ∙ packet-reads k v b h
 
--- the same for a timing that the clocks give
+-- equal high times are refused, whatever the duties
+pub equal-refused : (t : Timing) (s : Sequence) → length (s .slots) ≡ 16 → t .zeroHigh ≡ t .oneHigh → readSequence t s ≡ refused wrongDuty
+unfolding readSequence
+equal-refused t s l e = rw (eq-eqb (length (s .slots)) 16 l, eq-eqb (t .zeroHigh) (t .oneHigh) e)
+
+-- the sequence of a packet reads back, for a timing that the clocks give
 pub clocks-read : (s clock bitrate : ℕ) (t : Timing) (k : Kind) (v : ℕ) (b : Bool) → v < 2048 → fromClocks s clock bitrate ≡ given t
     → readSequence t (sequenceOf t (packetWord k v b)) ≡ given (record { value = v; telemetry = b; kind = k })
 clocks-read s clock bitrate t k v b h e = sequence-reads t k v b h (unequal-times s clock bitrate e)

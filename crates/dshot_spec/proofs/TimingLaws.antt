@@ -2,13 +2,15 @@
 -- Assumes nothing.
 use mathlib.Core.Path.{_≡_, ap, _∙_}
 use Prim.Native.Nat.{ℕ, _+_, _*_, _/_, _^_, _<_, _≤_}
-use native.Mathlib.Nat.{div-div-eq-div-mul, div-lt-iff-lt-mul, mul-le-mul-left}
+use native.Mathlib.Nat.{div-div-eq-div-mul, div-lt-iff-lt-mul, le-div-iff-mul-le, mul-le-mul-left}
 use native.Mathlib.Omega.{arith}
-use lib.Dec.{eqb, ltb}
+use lib.Dec.{eqb, ltb, lit<}
+use mathlib.Core.Bool.{Bool, true, false}
 use borrow.Author.Tests.{eqb-false, ltb-false}
 use Rattle.dshot_reply_spec.specs.Answer.{given, periodTooLong, periodTooShort, zeroBitrate, zeroTimerClock}
 use Rattle.dshot_spec.proofs.Given.{second-given}
-use Rattle.dshot_spec.specs.Timing.{Timing, fromClocks, nearest, replySampleHz, timingOf}
+use Rattle.dshot_spec.specs.Timing.{ClocksGiven, Timing, dutyForBit, fromClocks, nearest, replySampleHz, timingOf}
+use Rattle.dshot_spec.specs.Betaflight.{NearestTick, highEighths}
 
 -- ---- quotients to the nearest
 
@@ -55,15 +57,6 @@ sample-period-fits s clock bitrate h l = nearest-falls 65536 clock bitrate (repl
 pub high-times : (p : ℕ) → 4 ≤ p → (0 < (3 * p + 4) / 8) × ((3 * p + 4) / 8 < (3 * p + 2) / 4) × ((3 * p + 2) / 4 < p)
 high-times p h = omega arith
 
--- what the clocks of a timing are
-pub record ClocksGiven (s clock bitrate : ℕ) (t : Timing) : Type 0 where
-  pub clocked : 0 < clock
-  pub rated : 0 < bitrate
-  pub long : 4 ≤ nearest clock bitrate
-  pub short : nearest clock bitrate ≤ 65536
-  pub sampled : 2 ≤ nearest clock (replySampleHz s bitrate)
-  pub counts : t ≡ timingOf (nearest clock bitrate) (nearest clock (replySampleHz s bitrate))
-
 -- a timing is given only for clocks that are not zero and periods that can be timed, and has their counts
 pub clocks-given : (s clock bitrate : ℕ) {t : Timing} → fromClocks s clock bitrate ≡ given t → ClocksGiven s clock bitrate t
 unfolding fromClocks
@@ -98,3 +91,17 @@ unequal-times s clock bitrate e f =
     let c = clocks-given s clock bitrate e in
     let g = rw (c .counts) at f in
     omega (arith, high-times (nearest clock bitrate) (c .long))
+
+-- at three samples a bit the sample period refuses a period of 4 too, so that the shortest that is given is 5
+pub shortest-period : (clock bitrate : ℕ) {t : Timing} → fromClocks 3 clock bitrate ≡ given t → 5 ≤ nearest clock bitrate
+shortest-period clock bitrate e =
+    let c = clocks-given 3 clock bitrate e in
+    let h = replySampleHz 3 bitrate in
+    let twice : 2 * h ≤ clock + h / 2 = le-div-iff-mul-le (sample-hz-pos 3 bitrate (lit< tt) (c .rated)) .0 (c .sampled) in
+    le-div-iff-mul-le (c .rated) .1 (omega (arith, c .rated))
+
+-- the high times are those of the document, to the nearest tick
+pub high-nearest : (s clock bitrate : ℕ) {t : Timing} (set : Bool) → fromClocks s clock bitrate ≡ given t
+    → NearestTick (dutyForBit t set) (highEighths set) (nearest clock bitrate)
+high-nearest s clock bitrate false e = rw (clocks-given s clock bitrate e .counts) (record { most = omega arith; least = omega arith })
+high-nearest s clock bitrate true e = rw (clocks-given s clock bitrate e .counts) (record { most = omega arith; least = omega arith })

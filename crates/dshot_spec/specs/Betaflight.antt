@@ -1,11 +1,10 @@
 -- A DShot frame as Betaflight's DShot documentation describes it, bit by bit as it goes over the wire. Written from what is known of that
 -- documentation, whose text was not at hand (docs/DIFFERENCES.md), and not from the code.
 -- Assumes nothing.
-use Prim.Native.Nat.{ℕ, zero, suc, _+_, _-_, _*_, _/_, _%_, _^_}
+use Prim.Native.Nat.{ℕ, zero, suc, _+_, _-_, _*_, _/_, _%_, _^_, _≤_}
 use mathlib.Core.Bool.{Bool, true, false}
 use mathlib.Core.List.{List, [], _∷_, _++_}
 use lib.Bits.{bitXor}
-use Rattle.dshot_spec.specs.Packet.{Kind, plain, inverted}
 
 -- the lowest n bits of a number, the highest of them first
 abbrev pub bits : ℕ → ℕ → List ℕ
@@ -18,10 +17,20 @@ request true = 1
 request false = 0
 
 -- the checksum of the twelve bits x before it, (x ^ (x >> 4) ^ (x >> 8)) & 0x0F; bidirectional DShot inverts it, ~(..) & 0x0F
-unfoldable pub crc : Kind → ℕ → ℕ
-crc plain x = bitXor (bitXor x (x / 16)) (x / 256) % 16
-crc inverted x = 15 - bitXor (bitXor x (x / 16)) (x / 256) % 16
+unfoldable pub crc : Bool → ℕ → ℕ
+crc false x = bitXor (bitXor x (x / 16)) (x / 256) % 16
+crc true x = 15 - bitXor (bitXor x (x / 16)) (x / 256) % 16
 
 -- eleven bits of value, the telemetry request and four bits of checksum
-unfoldable pub frameBits : Kind → ℕ → Bool → List ℕ
-frameBits kind value telemetry = bits 11 value ++ (request telemetry ∷ bits 4 (crc kind (value * 2 + request telemetry)))
+unfoldable pub frameBits : Bool → ℕ → Bool → List ℕ
+frameBits bidirectional value telemetry = bits 11 value ++ (request telemetry ∷ bits 4 (crc bidirectional (value * 2 + request telemetry)))
+
+-- how many eighths of a bit's time the line is high: 37.5 % for a 0 and 75 % for a 1
+abbrev pub highEighths : Bool → ℕ
+highEighths false = 3
+highEighths true = 6
+
+-- a count is the nearest to so many eighths of a period: no more than half a tick off, on either side
+pub record NearestTick (count eighths period : ℕ) : Type 0 where
+  pub most : 8 * count ≤ eighths * period + 4
+  pub least : eighths * period ≤ 8 * count + 4

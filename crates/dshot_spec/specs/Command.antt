@@ -1,12 +1,12 @@
 -- A run of special commands for one motor: each command is sent a number of times, one after the other.
 -- Stands for `DshotCommandSequence` of crates/ferrowasp-output/src/dshot.rs (Eirik2020/ferro-wasp, commit 9cb8aca1a6, Copyright (c) 2026
--- Kaldstrand, Apache-2.0), changed: rewritten as definitions, for any list of commands and any number of repeats.
+-- Kaldstrand, Apache-2.0), changed: rewritten as definitions, for any list of commands and 1 to 255 repeats.
 -- Assumes nothing.
 use Prim.Native.Nat.{ℕ, zero, suc, _+_, _%_}
 use mathlib.Core.Bool.{Bool}
-use mathlib.Core.List.{List, [], _∷_}
+use mathlib.Core.List.{List, [], _∷_, _++_}
 use lib.Dec.{eqb, ltb}
-use lib.ListN.{length, getD}
+use lib.ListN.{length, getD, replicate}
 use Rattle.dshot_reply_spec.specs.Answer.{pick}
 
 -- which command is next, and how often it is still to be sent
@@ -36,7 +36,7 @@ counted repeats run left =
     (record { commands = run .commands; index = run .index + 1; repeatsLeft = repeats })
     (record { commands = run .commands; index = run .index; repeatsLeft = left })
 
--- one step of a run; the count is a byte and wraps, so that a count of 0, which no run reaches, is taken for 256
+-- one step of a run; the count is a byte and wraps, so that a count of 0, which no run of `spinDirection` reaches, is taken for 256
 unfoldable pub nextValue : ℕ → CommandRun → Next
 nextValue repeats run =
     pick (ltb (run .index) (length (run .commands)))
@@ -47,3 +47,8 @@ nextValue repeats run =
 abbrev pub sentBy : ℕ → ℕ → CommandRun → List Command
 sentBy repeats zero run = []
 sentBy repeats (suc n) run = nextValue repeats run .command ∷ sentBy repeats n (nextValue repeats run .run)
+
+-- each command r times, in order
+abbrev pub repeated : ℕ → List ℕ → List Command
+repeated r [] = []
+repeated r (c ∷ cs) = replicate r (send c) ++ repeated r cs

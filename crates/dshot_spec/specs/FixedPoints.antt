@@ -12,6 +12,7 @@ use Rattle.dshot_spec.specs.Packet.{Kind, plain, inverted, packetWord}
 use Rattle.dshot_spec.specs.Throttle.{throttleValue}
 use Rattle.dshot_spec.specs.Timing.{Timing, fromClocks}
 
+-- the kinds of points
 pub data Point : Type 0 where
   -- the packet of a value and a telemetry bit
   packet : Kind → ℕ → Bool → ℕ → Point
@@ -26,6 +27,7 @@ pub data Point : Type 0 where
   -- the words of two values, which differ by an edge that moves from one bit to another
   moved : ℕ → ℕ → ℕ → ℕ → Point
 
+-- what a point claims
 abbrev pub Holds : Point → Type 0
 Holds (packet kind v t w) = packetWord kind v t ≡ w
 Holds (timing clock bitrate a) = fromClocks 3 clock bitrate ≡ a
@@ -39,6 +41,7 @@ abbrev pub Hold : List Point → Type 0
 Hold [] = Unit {0}
 Hold (p ∷ ps) = Holds p × Hold ps
 
+-- a timing that is given, by its counts
 abbrev counts : ℕ → ℕ → ℕ → ℕ → Answer Timing
 counts a z o r = given (record { arr = a; zeroHigh = z; oneHigh = o; replySampleArr = r })
 
@@ -61,7 +64,9 @@ fixedPoints =
     ∷ reading 0xe00 false (given edt)
     ∷ reading 0xe00 true (given (state 0))
     ∷ reading 0x001 false (given (erpm 600000))
+    ∷ reading 0x001 true (given (erpm 600000))
     ∷ reading 0xffe false (given (erpm 9))
+    ∷ reading 0xffe true (given (erpm 9))
     ∷ word 0x190 0x1da737
     ∷ word 0x800 0x1d6737
     ∷ moved 0x190 0x800 15 14

@@ -16,6 +16,11 @@ pub data Kind : Type 0 where
   plain : Kind
   inverted : Kind
 
+-- whether it is inverted
+abbrev pub isInverted : Kind → Bool
+isInverted plain = false
+isInverted inverted = true
+
 -- what a packet says
 pub record Frame : Type 0 where
   pub value : ℕ
@@ -35,6 +40,7 @@ payload value telemetry = 2 * (value % 2048) + flag telemetry
 abbrev pub checksum : ℕ → ℕ
 checksum p = bitXor (bitXor (p % 16) (p / 16 % 16)) (p / 256 % 16)
 
+-- what is sent for a checksum
 abbrev pub sent : Kind → ℕ → ℕ
 sent plain c = c
 sent inverted c = bitXor c 15
@@ -54,6 +60,7 @@ pub data TelemetryLane : Type 0 where
   none : TelemetryLane
   lane : ℕ → TelemetryLane
 
+-- whether lane i is asked
 abbrev pub asks : TelemetryLane → ℕ → Bool
 asks none i = false
 asks (lane l) i = eqb l i
@@ -64,6 +71,7 @@ motorPackets n kind values telemetryLane = tabulate n (λ i. packetWord kind (ge
 
 -- ---- the reader
 
+-- what a payload says
 abbrev pub frameOf : Kind → ℕ → Frame
 frameOf kind p = record { value = p / 2; telemetry = eqb (p % 2) 1; kind = kind }
 

@@ -30,6 +30,7 @@ encodedPacket out w max = pick (eqb (length out) 22) (given (tabulate 22 (frameS
 
 -- ---- a compare sequence: the first duty, and 16 slots
 
+-- what `encode_compare_sequence` returns and writes
 pub record Sequence : Type 0 where
   pub first : ℕ
   pub slots : List ℕ
@@ -38,6 +39,7 @@ pub record Sequence : Type 0 where
 abbrev pub sequenceSlot : Timing → ℕ → ℕ → ℕ
 sequenceSlot t w i = pick (ltb i 15) (dutyForBit t (isSet w (14 - i))) 0
 
+-- the sequence of a packet word
 unfoldable pub sequenceOf : Timing → ℕ → Sequence
 sequenceOf t w = record { first = dutyForBit t (isSet w 15); slots = tabulate 16 (sequenceSlot t w) }
 

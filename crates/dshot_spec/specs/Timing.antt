@@ -2,11 +2,13 @@
 -- Stands for `DshotTiming` of crates/ferrowasp-output/src/dshot.rs (Eirik2020/ferro-wasp, commit 9cb8aca1a6, Copyright (c) 2026 Kaldstrand,
 -- Apache-2.0), changed: rewritten as a definition, with document 01's formulas.
 -- Assumes nothing.
-use Prim.Native.Nat.{ℕ, _+_, _-_, _*_, _/_}
+use Prim.Native.Nat.{ℕ, _+_, _-_, _*_, _/_, _<_, _≤_}
+use mathlib.Core.Path.{_≡_}
 use mathlib.Core.Bool.{Bool}
 use lib.Dec.{eqb, ltb}
 use Rattle.dshot_reply_spec.specs.Answer.{Answer, given, refused, pick, zeroTimerClock, zeroBitrate, periodTooShort, periodTooLong}
 
+-- the counts of `DshotTiming`: the period less one, the high times of a 0 and of a 1, and the period of reply samples less one
 pub record Timing : Type 0 where
   pub arr : ℕ
   pub zeroHigh : ℕ
@@ -39,6 +41,15 @@ fromClocks s clock bitrate =
     pick (eqb clock 0) (refused zeroTimerClock)
     (pick (eqb bitrate 0) (refused zeroBitrate)
     (timed (nearest clock bitrate) (nearest clock (replySampleHz s bitrate))))
+
+-- what a timing t that is given says of its clocks
+pub record ClocksGiven (s clock bitrate : ℕ) (t : Timing) : Type 0 where
+  pub clocked : 0 < clock
+  pub rated : 0 < bitrate
+  pub long : 4 ≤ nearest clock bitrate
+  pub short : nearest clock bitrate ≤ 65536
+  pub sampled : 2 ≤ nearest clock (replySampleHz s bitrate)
+  pub counts : t ≡ timingOf (nearest clock bitrate) (nearest clock (replySampleHz s bitrate))
 
 -- the high time of a bit
 abbrev pub dutyForBit : Timing → Bool → ℕ

@@ -29,24 +29,6 @@ pub asked-so : {A : Type 0} (out : List ℕ) (n : ℕ) (a : Answer A) → length
 unfolding asked
 asked-so out n a h = rw (eq-eqb (length out) n h)
 
--- a refusal returns its number and leaves a buffer as it was
-pub refused-so : {A : Type 0} {a : Answer A} {n : ℕ} (slots : A → List ℕ) (out : List ℕ) → a ≡ refused n → (n ≡ refusalNumber a) × (out ≡ filled slots out a)
-refused-so slots out e = (sym (ap refusalNumber e), sym (ap (filled slots out) e))
-
--- what is given returns 0 and is put into the buffer
-pub given-so : {A : Type 0} {a : Answer A} {x : A} (slots : A → List ℕ) (out : List ℕ) {exit : List ℕ} → a ≡ given x → exit ≡ slots x
-    → (0 ≡ refusalNumber a) × (exit ≡ filled slots out a)
-given-so slots out e f = (sym (ap refusalNumber e), f ∙ sym (ap (filled slots out) e))
-
--- the same of two buffers
-pub refused-both : {A : Type 0} {a : Answer A} {n : ℕ} (f g : A → List ℕ) (xs ys : List ℕ) → a ≡ refused n
-    → (n ≡ refusalNumber a) × ((xs ≡ filled f xs a) × (ys ≡ filled g ys a))
-refused-both f g xs ys e = (sym (ap refusalNumber e), (sym (ap (filled f xs) e), sym (ap (filled g ys) e)))
-
-pub given-both : {A : Type 0} {a : Answer A} {x : A} (f g : A → List ℕ) (xs ys : List ℕ) {left right : List ℕ} → a ≡ given x → left ≡ f x → right ≡ g x
-    → (0 ≡ refusalNumber a) × ((left ≡ filled f xs a) × (right ≡ filled g ys a))
-given-both f g xs ys e h k = (sym (ap refusalNumber e), (h ∙ sym (ap (filled f xs) e), k ∙ sym (ap (filled g ys) e)))
-
 -- a list by its entries
 pub entries : (xs : List ℕ) (n : ℕ) → length xs ≡ n → tabulate n (λ i. getD xs i 0) ≡ xs
 entries xs n h =

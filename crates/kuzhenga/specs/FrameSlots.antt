@@ -1,9 +1,11 @@
--- How a timing, a command run, a command and a frame lie in slots.
+-- How a timing, a command run, a command and a frame lie in slots: added, for the calls that document 01 asks for from C.
 -- Assumes nothing.
 use Prim.Native.Nat.{ℕ}
 use mathlib.Core.List.{List, [], _∷_}
+use lib.Dec.{ltb}
 use lib.ListN.{getD}
-use Rattle.dshot_spec.specs.Packet.{Kind, plain, inverted, Frame, flag}
+use Rattle.dshot_reply_spec.specs.Answer.{Answer, refused, pick, wrongPacketChecksum}
+use Rattle.dshot_spec.specs.Packet.{Kind, plain, inverted, Frame, flag, readPacket}
 use Rattle.dshot_spec.specs.Timing.{Timing}
 use Rattle.dshot_spec.specs.Command.{CommandRun, Command, none, send}
 
@@ -36,3 +38,7 @@ kindNumber inverted = 1
 -- a frame in three slots: its value, its telemetry bit and its kind of checksum
 abbrev pub frameSlots : Frame → List ℕ
 frameSlots f = f .value ∷ flag (f .telemetry) ∷ kindNumber (f .kind) ∷ []
+
+-- what a number says as a packet; a packet has sixteen bits
+abbrev pub readWide : ℕ → Answer Frame
+readWide w = pick (ltb 65535 w) (refused wrongPacketChecksum) (readPacket w)

@@ -25,14 +25,14 @@ ghost use lib.Dec.{eqb};
 ghost use lib.ListN.{length, getD};
 ghost use Rattle.dshot_reply_spec.specs.Answer.{given, refusalNumber, filled};
 ghost use Rattle.dshot_spec.specs.Packet.{plain, inverted, flag, packetWord, tryPacket, lane, motorPackets, readPacket};
-ghost use Rattle.dshot_spec.specs.Timing.{fromClocks};
+ghost use Rattle.dshot_spec.specs.Timing.{fromClocks, dutyForBit};
 ghost use Rattle.dshot_spec.specs.Sequence.{encodedPacket, encodedSequence, readSequence};
 ghost use Rattle.dshot_spec.specs.Throttle.{throttleValue, throttleValues};
 ghost use Rattle.dshot_spec.specs.Command.{spinDirection, nextValue};
 ghost use Rattle.dshot_spec.specs.Lease.{leaseExpired};
 ghost use Rattle.dshot.specs.Answers.{kindOf, words, timingOf, runOf, commandOf, frameAnswer};
 ghost use Rattle.kuzhenga.specs.Slots.{asked, one};
-ghost use Rattle.kuzhenga.specs.FrameSlots.{timingSlots, timingAt, runSlots, runAt, commandSlots, kindNumber, frameSlots};
+ghost use Rattle.kuzhenga.specs.FrameSlots.{timingSlots, timingAt, runSlots, runAt, commandSlots, kindNumber, frameSlots, readWide};
 
 // The plain packet of `value` modulo 2048.
 #[no_mangle]
@@ -205,6 +205,22 @@ fn timing_at(slots: &[u16]) -> DshotTiming
         one_high: slots[2],
         reply_sample_arr: slots[3],
     }
+}
+
+// The high time of a bit, in one slot.
+#[no_mangle]
+pub extern "C" fn kuzhenga_duty_for_bit(timing: &[u16], set: u32, duty: &mut [u16]) -> u32
+    ensures { λ r. ⌜ r ≡ refusalNumber (asked 4 (now (timing .entry)) (asked 1 (now (duty .entry)) (given (dutyForBit (timingAt (now (timing .entry))) (not (eqb set 0)))))) ⌝ }
+    ensures { λ r. ⌜ now (duty .exit) ≡ filled one (now (duty .entry)) (asked 4 (now (timing .entry)) (asked 1 (now (duty .entry)) (given (dutyForBit (timingAt (now (timing .entry))) (not (eqb set 0)))))) ⌝ }
+{
+    if timing.len() != 4 {
+        return 13;
+    }
+    if duty.len() != 1 {
+        return 13;
+    }
+    duty[0] = timing_at(timing).duty_for_bit(set != 0);
+    0
 }
 
 // The frame of a packet in 22 slots, at a largest duty; the low sixteen bits of both count.
@@ -415,19 +431,19 @@ fn kind_of(checksum: ChecksumKind) -> u16
     }
 }
 
-// What a packet says, of which the low sixteen bits count, in three slots.
+// What a packet says, in three slots; a number above 65535 is no packet.
 #[no_mangle]
 pub extern "C" fn kuzhenga_read_packet(packet: u32, frame: &mut [u16]) -> u32
-    ensures { λ r. ⌜ r ≡ refusalNumber (asked 3 (now (frame .entry)) (readPacket (packet % 65536))) ⌝ }
-    ensures { λ r. ⌜ now (frame .exit) ≡ filled frameSlots (now (frame .entry)) (asked 3 (now (frame .entry)) (readPacket (packet % 65536))) ⌝ }
+    ensures { λ r. ⌜ r ≡ refusalNumber (asked 3 (now (frame .entry)) (readWide packet)) ⌝ }
+    ensures { λ r. ⌜ now (frame .exit) ≡ filled frameSlots (now (frame .entry)) (asked 3 (now (frame .entry)) (readWide packet)) ⌝ }
 {
     if frame.len() != 3 {
         return 13;
     }
-    put_frame(
-        read::read_packet(DshotPacket((packet % 65536) as u16)),
-        frame,
-    )
+    if packet > 65535 {
+        return 15;
+    }
+    put_frame(read::read_packet(DshotPacket(packet as u16)), frame)
 }
 
 // What a sequence says, in three slots: its first duty, its sixteen slots, and the timing that it was made with.

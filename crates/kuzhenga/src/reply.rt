@@ -30,7 +30,7 @@ pub extern "C" fn kuzhenga_reply_transitions_for(value: u32) -> u32
     dshot_reply::reply_transitions_for((value % 4096) as u16)
 }
 
-// The transition bits of a capture, in two slots.
+// The transition bits of a capture, in two slots; of the mask the low sixteen bits count.
 #[no_mangle]
 pub extern "C" fn kuzhenga_reply_transitions(
     samples: &[u16],
@@ -138,7 +138,7 @@ pub extern "C" fn kuzhenga_reply_from_value(
     )
 }
 
-// The reading of a capture, in three slots.
+// The reading of a capture, in three slots; of the mask the low sixteen bits count.
 #[no_mangle]
 pub extern "C" fn kuzhenga_decode_sampled_reply(
     samples: &[u16],
@@ -180,7 +180,7 @@ pub extern "C" fn kuzhenga_period_value(period_us: u32, value: &mut [u16]) -> u3
     }
 }
 
-// The capture that the simulated ESC's reply of `value` modulo 4096 leaves in a buffer.
+// The capture that the simulated ESC's reply of `value` modulo 4096 leaves in a buffer; of the mask the low sixteen bits count.
 #[no_mangle]
 pub extern "C" fn kuzhenga_simulate_reply(
     samples: &mut [u16],

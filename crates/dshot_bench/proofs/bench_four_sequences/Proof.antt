@@ -5,7 +5,8 @@ use mathlib.Core.List.{List}
 use Prim.Native.Nat.{ℕ, _-_}
 use lib.ListN.{length, getD, List·getD-map}
 use borrow.Author.Tests.{eq-eqb, ne-eqb}
-use Rattle.dshot_reply_spec.specs.Answer.{Answer, given, refused, refusalNumber, filled, wrongLength}
+use Rattle.dshot_reply_spec.proofs.Answered.{refused-both, given-both}
+use Rattle.dshot_reply_spec.specs.Answer.{given, refused, wrongLength}
 use Rattle.dshot_spec.proofs.Tabulated.{Filled, filled-none, filled-more, filled-all}
 use Rattle.dshot_spec.specs.Packet.{motorPackets, inverted, lane}
 use Rattle.dshot_spec.specs.Sequence.{sequenceOf}
@@ -13,7 +14,7 @@ use Rattle.dshot_spec.specs.Tabulate.{tabulate}
 use Rattle.dshot_spec.specs.Timing.{Timing}
 use Rattle.dshot.specs.Answers.{timingOf, words}
 use Rattle.dshot.specs.declared.DshotPacket.{DshotPacket}
-use Rattle.dshot_bench.specs.Sequences.{timingOfHighs, built, firstsOf, slotsOf}
+use Rattle.dshot_bench.specs.Sequences.{timingOfCounts, built, firstsOf, slotsOf}
 use Rattle.dshot_bench.proofs.JoinedLaws.{Joined, joined-none, joined-more, joined-all, sequence-slots}
 use borrow.Author.Needs.{needs}
 use Rattle.dshot_bench.proofs.bench_four_sequences.Statement.{statement}
@@ -26,32 +27,22 @@ slotsAt t ws i = sequenceOf t (getD ws i 0) .slots
 abbrev firstAt : Timing → List ℕ → ℕ → ℕ
 firstAt t ws i = sequenceOf t (getD ws i 0) .first
 
--- a refusal returns its number and leaves both buffers as they were
-refused-both : {A : Type 0} {a : Answer A} {n : ℕ} (f g : A → List ℕ) (xs ys : List ℕ) → a ≡ refused n
-    → (n ≡ refusalNumber a) × ((xs ≡ filled f xs a) × (ys ≡ filled g ys a))
-refused-both f g xs ys e = (sym (ap refusalNumber e), (sym (ap (filled f xs) e), sym (ap (filled g ys) e)))
-
--- what is given returns 0 and is put into both
-given-both : {A : Type 0} {a : Answer A} {x : A} (f g : A → List ℕ) (xs ys : List ℕ) {left right : List ℕ} → a ≡ given x → left ≡ f x → right ≡ g x
-    → (0 ≡ refusalNumber a) × ((left ≡ filled f xs a) × (right ≡ filled g ys a))
-given-both f g xs ys e h k = (sym (ap refusalNumber e), (h ∙ sym (ap (filled f xs) e), k ∙ sym (ap (filled g ys) e)))
-
 abbrev none : DshotPacket
 none = record { 0 = 0 }
 
 abbrev Inv-loop : tie.InvT-loop
-Inv-loop values telemetry-lane zero-high one-high slots₀ firsts₀ timing packets index₀ slots firsts index =
+Inv-loop values telemetry-lane arr zero-high one-high reply-sample-arr slots₀ firsts₀ timing packets index₀ slots firsts index =
     Filled 4 (firstAt (timingOf timing) (words packets)) firsts₀ index firsts
     × Joined 16 4 (slotsAt (timingOf timing) (words packets)) slots₀ index slots
 
 abbrev μ-loop : tie.MeasureT-loop
-μ-loop values telemetry-lane zero-high one-high slots₀ firsts₀ timing packets index₀ slots firsts index = 4 - index
+μ-loop values telemetry-lane arr zero-high one-high reply-sample-arr slots₀ firsts₀ timing packets index₀ slots firsts index = 4 - index
 
 returns : tie.Need-returns Inv-loop μ-loop
 unfolding built
 returns c =
     let a = c .before .before .before .before .args in
-    let t = timingOfHighs (a .zero-high) (a .one-high) in
+    let t = timingOfCounts (a .arr) (a .zero-high) (a .one-high) (a .reply-sample-arr) in
     let e : built (a .values .now) (lane (a .telemetry-lane)) (a .slots .now) (a .firsts .now) ≡ refused wrongLength = rw (ne-eqb (length (a .values .now)) 4 (c .if1 .taken)) in
     refused-both (slotsOf t) (firstsOf t) (a .slots .now) (a .firsts .now) e
 
@@ -59,7 +50,7 @@ returns-2 : tie.Need-returns-2 Inv-loop μ-loop
 unfolding built
 returns-2 c =
     let a = c .before .before .before .before .before .args in
-    let t = timingOfHighs (a .zero-high) (a .one-high) in
+    let t = timingOfCounts (a .arr) (a .zero-high) (a .one-high) (a .reply-sample-arr) in
     let e : built (a .values .now) (lane (a .telemetry-lane)) (a .slots .now) (a .firsts .now) ≡ refused wrongLength =
     rw (eq-eqb (length (a .values .now)) 4 (c .before .if1 .left), ne-eqb (length (a .slots .now)) 64 (c .if2 .taken)) in
     refused-both (slotsOf t) (firstsOf t) (a .slots .now) (a .firsts .now) e
@@ -68,7 +59,7 @@ returns-3 : tie.Need-returns-3 Inv-loop μ-loop
 unfolding built
 returns-3 c =
     let a = c .before .before .before .before .before .before .args in
-    let t = timingOfHighs (a .zero-high) (a .one-high) in
+    let t = timingOfCounts (a .arr) (a .zero-high) (a .one-high) (a .reply-sample-arr) in
     let e : built (a .values .now) (lane (a .telemetry-lane)) (a .slots .now) (a .firsts .now) ≡ refused wrongLength =
     rw (
       eq-eqb (length (a .values .now)) 4 (c .before .before .if1 .left),
@@ -76,9 +67,6 @@ returns-3 c =
       ne-eqb (length (a .firsts .now)) 4 (c .if3 .taken),
     ) in
     refused-both (slotsOf t) (firstsOf t) (a .slots .now) (a .firsts .now) e
-
-shared-slice-read-t14 : tie.Need-shared-slice-read-t14 Inv-loop μ-loop
-shared-slice-read-t14 c = search needs
 
 shared-slice-read-t16 : tie.Need-shared-slice-read-t16 Inv-loop μ-loop
 shared-slice-read-t16 c = search needs
@@ -88,6 +76,9 @@ shared-slice-read-t18 c = search needs
 
 shared-slice-read-t20 : tie.Need-shared-slice-read-t20 Inv-loop μ-loop
 shared-slice-read-t20 c = search needs
+
+shared-slice-read-t22 : tie.Need-shared-slice-read-t22 Inv-loop μ-loop
+shared-slice-read-t22 c = search needs
 
 four-motor-bidirectional-packets-requires :
     tie.Need-four-motor-bidirectional-packets-requires Inv-loop μ-loop
@@ -116,7 +107,7 @@ loop-again c =
     let a = c .before .before .before .before .before .before .before .before .before .before .before .before .before .before .before .before .before .before .before .before .before .args in
     let l = c .before .before .before .before .before .before .before .before .before .loop in
     let packets = c .before .before .before .before .before .before .before .before .before .before .four-motor-bidirectional-packets .result in
-    let t = timingOfHighs (a .zero-high) (a .one-high) in
+    let t = timingOfCounts (a .arr) (a .zero-high) (a .one-high) (a .reply-sample-arr) in
     let word : getD packets (l .index) none .0 ≡ getD (words packets) (l .index) 0 = sym (List·getD-map (λ (p : DshotPacket). p .0) packets (l .index) none) in
     let put = c .before .before .before .before .put-sequence .ensures in
     let test = c .before .before .before .before .before .before .before .before .loop-test .taken in (
@@ -135,7 +126,7 @@ unfolding built motorPackets tabulate
 returns-4 c =
     let a = c .before .before .before .before .before .before .before .before .before .before .before .before .before .args in
     let l = c .before .loop in
-    let t = timingOfHighs (a .zero-high) (a .one-high) in
+    let t = timingOfCounts (a .arr) (a .zero-high) (a .one-high) (a .reply-sample-arr) in
     let ws = motorPackets 4 inverted (a .values .now) (lane (a .telemetry-lane)) in
     let w : words (c .before .before .four-motor-bidirectional-packets .result) ≡ ws = c .before .before .four-motor-bidirectional-packets .ensures in
     let e : built (a .values .now) (lane (a .telemetry-lane)) (a .slots .now) (a .firsts .now) ≡ given ws =
@@ -157,10 +148,10 @@ bench-four-sequences-spec =
     returns
     returns-2
     returns-3
-    shared-slice-read-t14
     shared-slice-read-t16
     shared-slice-read-t18
     shared-slice-read-t20
+    shared-slice-read-t22
     four-motor-bidirectional-packets-requires
     loop-holds
     mul-put-sequence

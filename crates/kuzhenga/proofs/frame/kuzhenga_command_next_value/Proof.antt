@@ -5,7 +5,8 @@ use mathlib.Core.List.{[], _∷_}
 use Rattle.dshot_spec.specs.Command.{Next}
 use Rattle.dshot_spec.specs.Tabulate.{tabulate}
 use Rattle.kuzhenga.specs.FrameSlots.{runSlots, runAt, commandSlots}
-use Rattle.kuzhenga.proofs.SlotLaws.{asked-not, asked-so, refused-both, given-both, entries}
+use Rattle.dshot_reply_spec.proofs.Answered.{refused-both, given-both}
+use Rattle.kuzhenga.proofs.SlotLaws.{asked-not, asked-so, entries}
 use Rattle.kuzhenga.proofs.FrameLaws.{spent}
 use borrow.Author.Needs.{needs}
 use Rattle.kuzhenga.proofs.frame.kuzhenga_command_next_value.Statement.{statement}

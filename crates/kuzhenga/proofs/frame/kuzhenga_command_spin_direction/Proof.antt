@@ -2,7 +2,8 @@
 -- Assumes nothing.
 use mathlib.Core.Path.{ap, _∙_}
 use Rattle.kuzhenga.specs.FrameSlots.{runSlots}
-use Rattle.kuzhenga.proofs.SlotLaws.{asked-so, given-so, wrong-length}
+use Rattle.dshot_reply_spec.proofs.Answered.{given-so}
+use Rattle.kuzhenga.proofs.SlotLaws.{asked-so, wrong-length}
 use borrow.Author.Needs.{needs}
 use Rattle.kuzhenga.proofs.frame.kuzhenga_command_spin_direction.Statement.{statement}
 use Rattle.kuzhenga.proofs.frame.kuzhenga_command_spin_direction.Tie as tie

@@ -9,7 +9,8 @@ use Rattle.dshot_spec.specs.Timing.{Timing}
 use Rattle.dshot.specs.Answers.{firstAnswer}
 use Rattle.kuzhenga.specs.FrameSlots.{timingAt}
 use Rattle.kuzhenga.specs.Slots.{one, asked}
-use Rattle.kuzhenga.proofs.SlotLaws.{all-set, asked-not, asked-so, refused-both, given-both}
+use Rattle.dshot_reply_spec.proofs.Answered.{refused-both, given-both}
+use Rattle.kuzhenga.proofs.SlotLaws.{all-set, asked-not, asked-so}
 use Rattle.kuzhenga.proofs.FrameLaws.{of-sequence, of-refused}
 use borrow.Author.Needs.{needs}
 use Rattle.kuzhenga.proofs.frame.kuzhenga_encode_compare_sequence.Statement.{statement}

@@ -6,7 +6,8 @@ use borrow.Author.Tests.{lt-ltb}
 use Rattle.dshot_spec.specs.Packet.{tryPacket}
 use Rattle.dshot.specs.Answers.{packetAnswer}
 use Rattle.kuzhenga.specs.Slots.{one}
-use Rattle.kuzhenga.proofs.SlotLaws.{asked-so, refused-so, wrong-length, done, passed-on}
+use Rattle.dshot_reply_spec.proofs.Answered.{refused-so}
+use Rattle.kuzhenga.proofs.SlotLaws.{asked-so, wrong-length, done, passed-on}
 use borrow.Author.Needs.{needs}
 use Rattle.kuzhenga.proofs.frame.kuzhenga_packet_try_from_value.Statement.{statement}
 use Rattle.kuzhenga.proofs.frame.kuzhenga_packet_try_from_value.Tie as tie

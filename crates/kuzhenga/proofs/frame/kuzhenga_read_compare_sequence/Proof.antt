@@ -8,7 +8,8 @@ use Rattle.dshot_reply_spec.specs.Answer.{refusalNumber, filled}
 use Rattle.dshot_spec.specs.Sequence.{readSequence}
 use Rattle.dshot_spec.specs.Timing.{Timing}
 use Rattle.kuzhenga.specs.FrameSlots.{frameSlots}
-use Rattle.kuzhenga.proofs.SlotLaws.{asked-not, asked-so, refused-so}
+use Rattle.dshot_reply_spec.proofs.Answered.{refused-so}
+use Rattle.kuzhenga.proofs.SlotLaws.{asked-not, asked-so}
 use Rattle.kuzhenga.proofs.FrameLaws.{not-sixteen, neither}
 use borrow.Author.Needs.{needs}
 use Rattle.kuzhenga.proofs.frame.kuzhenga_read_compare_sequence.Statement.{statement}

@@ -6,7 +6,8 @@ use Prim.Native.Nat.{ℕ}
 use lib.ListN.{length}
 use Rattle.dshot_spec.specs.Tabulate.{tabulate}
 use Rattle.dshot_spec.specs.Throttle.{throttleValues}
-use Rattle.kuzhenga.proofs.SlotLaws.{asked-not, asked-so, refused-so, given-so, entries}
+use Rattle.dshot_reply_spec.proofs.Answered.{refused-so, given-so}
+use Rattle.kuzhenga.proofs.SlotLaws.{asked-not, asked-so, entries}
 use borrow.Author.Needs.{needs}
 use Rattle.kuzhenga.proofs.frame.kuzhenga_throttles_to_dshot.Statement.{statement}
 use Rattle.kuzhenga.proofs.frame.kuzhenga_throttles_to_dshot.Tie as tie

@@ -3,7 +3,8 @@
 use mathlib.Core.Path.{refl, sym, ap, _∙_}
 use Rattle.dshot.specs.Answers.{timingAnswer}
 use Rattle.kuzhenga.specs.FrameSlots.{timingSlots}
-use Rattle.kuzhenga.proofs.SlotLaws.{asked-so, given-so, wrong-length, passed-on}
+use Rattle.dshot_reply_spec.proofs.Answered.{given-so}
+use Rattle.kuzhenga.proofs.SlotLaws.{asked-so, wrong-length, passed-on}
 use borrow.Author.Needs.{needs}
 use Rattle.kuzhenga.proofs.frame.kuzhenga_timing_from_clocks.Statement.{statement}
 use Rattle.kuzhenga.proofs.frame.kuzhenga_timing_from_clocks.Tie as tie

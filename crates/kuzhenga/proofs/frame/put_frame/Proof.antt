@@ -4,7 +4,8 @@ use mathlib.Core.Path.{ap, _∙_}
 use mathlib.Core.List.{[], _∷_}
 use Rattle.dshot.specs.Answers.{frameAnswer}
 use Rattle.kuzhenga.specs.FrameSlots.{frameSlots}
-use Rattle.kuzhenga.proofs.SlotLaws.{all-set, given-so, refused-so}
+use Rattle.dshot_reply_spec.proofs.Answered.{given-so, refused-so}
+use Rattle.kuzhenga.proofs.SlotLaws.{all-set}
 use borrow.Author.Needs.{needs}
 use Rattle.kuzhenga.proofs.frame.put_frame.Statement.{statement}
 use Rattle.kuzhenga.proofs.frame.put_frame.Tie as tie

@@ -5,7 +5,8 @@ use mathlib.Core.List.{List}
 use Prim.Native.Nat.{ℕ}
 use Rattle.dshot_spec.specs.Packet.{lane, motorPackets}
 use Rattle.dshot.specs.Answers.{kindOf}
-use Rattle.kuzhenga.proofs.SlotLaws.{asked-not, asked-so, refused-so, given-so}
+use Rattle.dshot_reply_spec.proofs.Answered.{refused-so, given-so}
+use Rattle.kuzhenga.proofs.SlotLaws.{asked-not, asked-so}
 use borrow.Author.Needs.{needs}
 use Rattle.kuzhenga.proofs.frame.put_packets.Statement.{statement}
 use Rattle.kuzhenga.proofs.frame.put_packets.Tie as tie
