@@ -37,8 +37,10 @@ extern "C" {
         values: *const u16,
         four: usize,
         telemetry_lane: usize,
+        arr: u16,
         zero_high: u16,
         one_high: u16,
+        reply_sample_arr: u16,
         slots: *mut u16,
         sixty_four: usize,
         firsts: *mut u16,
@@ -52,8 +54,12 @@ pub fn library_sequences(set: &Set, timing: &[u16; 4], out: &mut Sequences) -> u
     let (values, lane) = (set.values.as_ptr(), set.lane_number());
     let slots = out.slots.as_flattened_mut().as_mut_ptr();
     let firsts = out.firsts.as_mut_ptr();
-    let [_, zero_high, one_high, _] = *timing;
-    unsafe { bench_four_sequences(values, 4, lane, zero_high, one_high, slots, 64, firsts, 4) }
+    let [arr, zero, one, sample] = *timing;
+    unsafe {
+        bench_four_sequences(
+            values, 4, lane, arr, zero, one, sample, slots, 64, firsts, 4,
+        )
+    }
 }
 
 #[inline(never)]

@@ -62,6 +62,13 @@ extern "C" {
         timing: *mut u16,
         four: usize,
     ) -> u32;
+    pub fn kuzhenga_duty_for_bit(
+        timing: *const u16,
+        four: usize,
+        set: u32,
+        duty: *mut u16,
+        one: usize,
+    ) -> u32;
     pub fn kuzhenga_encode_packet(
         packet: u32,
         max_duty: u32,

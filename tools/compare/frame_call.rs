@@ -18,6 +18,7 @@ pub enum Call {
     FourMotors([u16; 4], usize),
     FourBidirectional([u16; 4], usize),
     FromClocks(u32, u32),
+    DutyForBit([u16; 4], u32),
     EncodePacket(u32, u32),
     EncodeSequence(u32, [u16; 4]),
     Throttle(u32),
@@ -50,6 +51,7 @@ impl Call {
             Self::TryFromValue(..) => &[1],
             Self::FourMotors(..) | Self::FourBidirectional(..) | Self::Throttles(..) => &[4, 4],
             Self::FromClocks(..) | Self::SpinDirection(..) => &[4],
+            Self::DutyForBit(..) => &[4, 1],
             Self::EncodePacket(..) => &[22],
             Self::EncodeSequence(..) => &[4, 1, 16],
             Self::NextValue(..) => &[4, 2],
@@ -65,7 +67,7 @@ impl Call {
         match self {
             Self::FourMotors(values, _) | Self::FourBidirectional(values, _) => put(first, values),
             Self::Throttles(values) => put(first, values),
-            Self::EncodeSequence(_, timing) => put(first, timing),
+            Self::EncodeSequence(_, timing) | Self::DutyForBit(timing, _) => put(first, timing),
             Self::NextValue(sequence) => put(first, sequence),
             Self::ReadSequence(_, slots, timing) => {
                 put(first, slots);

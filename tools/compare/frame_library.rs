@@ -41,6 +41,7 @@ fn returned(call: &Call, [a, b, c]: &mut [Buffer; 3], lengths: &[usize]) -> u32 
                 kuzhenga_four_motor_bidirectional_packets(a.0, a.1, lane, b.0, b.1)
             }
             Call::FromClocks(clock, rate) => kuzhenga_timing_from_clocks(clock, rate, a.0, a.1),
+            Call::DutyForBit(_, set) => kuzhenga_duty_for_bit(a.0, a.1, set, b.0, b.1),
             Call::EncodePacket(packet, duty) => kuzhenga_encode_packet(packet, duty, a.0, a.1),
             Call::EncodeSequence(packet, _) => {
                 kuzhenga_encode_compare_sequence(packet, a.0, a.1, b.0, b.1, c.0, c.1)

@@ -56,17 +56,24 @@ pub fn encode_packet(packet: u32, max_duty: u32) -> [u16; 22] {
     slots
 }
 
-/// The first duty and the slots.
-pub fn encode_sequence(packet: u32, timing: [u16; 4]) -> (u16, [u16; 16]) {
-    let [arr, zero_high, one_high, reply_sample_arr] = timing;
-    let timing = DshotTiming {
+fn timing_of([arr, zero_high, one_high, reply_sample_arr]: [u16; 4]) -> DshotTiming {
+    DshotTiming {
         arr,
         zero_high,
         one_high,
         reply_sample_arr,
-    };
+    }
+}
+
+pub fn duty_for_bit(timing: [u16; 4], set: u32) -> u16 {
+    timing_of(timing).duty_for_bit(set != 0)
+}
+
+/// The first duty and the slots.
+pub fn encode_sequence(packet: u32, timing: [u16; 4]) -> (u16, [u16; 16]) {
+    let (packet, timing) = (DshotPacket(packet as u16), timing_of(timing));
     let mut slots = [0; 16];
-    let first = dshot::encode_compare_sequence(DshotPacket(packet as u16), timing, &mut slots);
+    let first = dshot::encode_compare_sequence(packet, timing, &mut slots);
     (first, slots)
 }
 

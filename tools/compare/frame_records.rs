@@ -1,7 +1,7 @@
 //! One line of the stored list for each kind of record on frames, with the right answer. Where a
 //! comparison fails, such a line names its input.
 
-use crate::frame_call::Call;
+use crate::frame_call::{Call, Left};
 use crate::frame_right::right;
 
 /// Numbers with spaces between them, and one before the first.
@@ -25,8 +25,14 @@ fn asked(lane: usize) -> String {
     }
 }
 
-/// The record of a call with buffers of these lengths. A run of commands is a
-/// record as a whole (list_commands.rs); its first state and its steps are named by their slots.
+/// What a step gives, and then the index and the count after it: it leaves the commands alone.
+fn stepped(left: &Left) -> String {
+    let [run, value, _] = &left.buffers;
+    format!("{}{}", listed(&value[..2]), listed(&run[2..4]))
+}
+
+/// The record of a call with buffers of these lengths. The first state of a run and the duty of a
+/// bit have no kind of their own, and are named by their slots.
 pub fn line(call: &Call, lengths: &[usize]) -> String {
     let left = right(call, lengths);
     let to = left.returned;
@@ -45,6 +51,9 @@ pub fn line(call: &Call, lengths: &[usize]) -> String {
             format!("12 {}{}{}", asked(*lane), listed(values), listed(slots(1)))
         }
         Call::FromClocks(clock, rate) => format!("13 {clock} {rate}{}", answered(to, slots(0))),
+        Call::DutyForBit(timing, set) => {
+            format!("duty_for_bit{} {set}{}", listed(timing), listed(slots(1)))
+        }
         Call::EncodePacket(packet, duty) => format!("14 {packet} {duty} {to}{}", listed(slots(0))),
         Call::EncodeSequence(packet, timing) => {
             let first = answered(to, slots(1));
@@ -53,7 +62,7 @@ pub fn line(call: &Call, lengths: &[usize]) -> String {
         Call::Throttle(value) => format!("16 {value} {to}"),
         Call::Throttles(values) => format!("17{}{}", listed(values), listed(slots(1))),
         Call::SpinDirection(reversed) => format!("spin_direction {reversed}{}", listed(slots(0))),
-        Call::NextValue(run) => format!("next_value{}: {:?}", listed(run), [slots(0), slots(1)]),
+        Call::NextValue(run) => format!("22{}{}", listed(run), stepped(&left)),
         Call::LeaseExpired(started, duration, now) => format!("19 {started} {duration} {now} {to}"),
         Call::ReadPacket(packet) => format!("20 {packet}{}", answered(to, slots(0))),
         Call::ReadSequence(first, _, timing) => {

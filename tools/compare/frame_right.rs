@@ -24,6 +24,7 @@ fn done(call: &Call, [first, second, third]: &mut [Buffer; 3]) -> u32 {
             filled(second, Ok(original::four_bidirectional(values, lane)))
         }
         Call::FromClocks(clock, rate) => filled(first, original::from_clocks(clock, rate)),
+        Call::DutyForBit(timing, set) => filled(second, Ok([original::duty_for_bit(timing, set)])),
         Call::EncodePacket(packet, duty) => {
             filled(first, Ok(original::encode_packet(packet, duty)))
         }

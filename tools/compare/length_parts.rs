@@ -10,7 +10,7 @@ use crate::timings;
 const LONGEST: usize = 24;
 
 /// Calls that are taken with buffers of the right length.
-fn taken() -> [Call; 11] {
+fn taken() -> [Call; 12] {
     let timing = timings::dshot600();
     let packet = from_value(1046, 1).into();
     let (first, slots) = encode_sequence(packet, timing);
@@ -19,6 +19,7 @@ fn taken() -> [Call; 11] {
         Call::FourMotors([0, 48, 1046, 2047], 2),
         Call::FourBidirectional([0, 48, 1046, 2047], 2),
         Call::FromClocks(168_000_000, 600_000),
+        Call::DutyForBit(timing, 1),
         Call::EncodePacket(packet, 279),
         Call::EncodeSequence(packet, timing),
         Call::Throttles([0, 1, 1000, 2000]),
@@ -30,7 +31,7 @@ fn taken() -> [Call; 11] {
 }
 
 /// Calls that would be refused for something else.
-fn refused() -> [Call; 9] {
+fn refused() -> [Call; 10] {
     let timing = timings::dshot600();
     let (first, slots) = encode_sequence(0, timing);
     [
@@ -40,6 +41,7 @@ fn refused() -> [Call; 9] {
         Call::FromClocks(1, 1),
         Call::FromClocks(u32::MAX, 1),
         Call::ReadPacket(1),
+        Call::ReadPacket(1 << 16),
         Call::ReadSequence(first.into(), slots, timings::EQUAL[0]),
         Call::ReadSequence(1 << 16, slots, timing),
         Call::ReadSequence(first.into(), [1; 16], timing),

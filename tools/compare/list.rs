@@ -1,12 +1,17 @@
 //! Writes the stored list that a test program replays: one record a line, numbers in decimal.
-//! Records 1 to 5 and 8 to 19 hold the source's answers; records 6, 7, 20 and 21, and each refusal
-//! 13, hold those of document 01's sentences. This program is not linked with the library, so no
-//! answer of the library can get into the list.
+//!
+//! Kinds 1 to 5, 8 to 19 and 23 hold the source's answers. Kinds 6, 7 and 20 to 22, and each
+//! refusal 13, hold those of document 01's sentences, since the source cannot be asked: it has no
+//! simulated ESC (6, 7) and no readers (20, 21), it makes two runs of commands and no others (22),
+//! and its buffers have the right length by their type (13). At a count of 0 the sentences leave a
+//! step free; there kind 22 holds this port's choice, a byte that wraps.
+//!
+//! This program is not linked with the library, so no answer of the library can get into the list.
 
 mod answer;
 mod captures;
 mod damage;
-// The list has whole runs of commands, and no single step of one.
+// The list has no first state of a run alone, and no duty of one bit.
 #[allow(dead_code)]
 mod frame_call;
 mod frame_original;
@@ -15,6 +20,7 @@ mod frame_right;
 mod list_captures;
 mod list_clocks;
 mod list_commands;
+mod list_constants;
 mod list_finding;
 mod list_frames;
 mod list_packets;
@@ -54,6 +60,10 @@ const FORMS: &str = "\
 # 19 STARTED DURATION NOW EXPIRED: command_lease_expired
 # 20 PACKET REFUSAL VALUE TELEMETRY CHECKSUM: read_packet, checksum 0 plain and 1 inverted
 # 21 FIRST ARR ZERO ONE SAMPLE REFUSAL VALUE TELEMETRY CHECKSUM SLOT*: read_compare_sequence
+# 22 COMMAND*2 INDEX LEFT GIVEN COMMAND INDEX LEFT: next_value of any run, and the run after it
+# 23 CONSTANT*12: the public constants of dshot.rs, in its order
+# Kinds 1 to 5, 8 to 19 and 23 hold the Rust's answers; 6, 7 and 20 to 22, and each refusal 13,
+# those of document 01's sentences. A step at a count of 0 they leave free: it is this port's.
 # What a refusal leaves out is 0, but for slots, which stay as they were. A capture is given as runs
 # of equal samples.";
 

@@ -1,4 +1,4 @@
-//! The list's groups of throttles, runs of commands and leases.
+//! The list's groups of throttles, runs of commands, single steps of runs, and leases.
 
 use crate::frame_call::Call;
 use crate::frame_original as original;
@@ -18,6 +18,7 @@ pub fn groups() {
     for reversed in [0, 1] {
         println!("{}", command_run(reversed, 25));
     }
+    steps();
     leases();
 }
 
@@ -30,6 +31,22 @@ fn command_run(reversed: u32, steps: usize) -> String {
     };
     let steps: String = (0..steps).map(step).collect();
     format!("18 {reversed}{steps}")
+}
+
+/// Both runs of the source have the first two pairs; the others show that any commands are taken.
+const COMMANDS: [[u16; 2]; 5] = [[20, 12], [21, 12], [1, 47], [0, 65535], [65535, 0]];
+
+fn steps() {
+    println!(
+        "# single steps of runs of any fields, with document 01's answers: the Rust's fields are"
+    );
+    println!("# private, and but for a few of these it cannot make such runs");
+    let pairs = COMMANDS.into_iter().cycle();
+    let indices = [0, 1, 2, 3, 255].into_iter();
+    let states = indices.flat_map(|index| [0, 1, 2, 9, 10, 255].map(|left| (index, left)));
+    for ((index, left), [first, second]) in states.zip(pairs) {
+        show(Call::NextValue([first, second, index, left]));
+    }
 }
 
 fn leases() {

@@ -82,8 +82,10 @@ fn frames(report: &mut impl FnMut(Tally)) {
     report(packet_parts::wide_packets());
     report(packet_parts::four_motors());
     report(packet_parts::words());
+    report(packet_parts::wide_words());
     report(clock_parts::limits());
     report(clock_parts::pairs());
+    report(sequence_parts::duty_for_bit());
     report(sequence_parts::encode_packet());
     sequence_parts::sequences()
         .into_iter()

@@ -2,6 +2,7 @@
 
 use crate::frame_call::Call;
 use crate::frame_check::frame;
+use crate::plain_frames;
 use crate::random::Random;
 use crate::tally::Tally;
 
@@ -63,18 +64,36 @@ pub fn four_motors() -> Tally {
     tally
 }
 
+/// Every packet of both kinds, as a word of sixteen bits.
+const PACKETS: u64 = 2 * 2 * 2048;
+
 /// The source reads no packet: what a word says is that of which the source makes it.
 pub fn words() -> Tally {
     let mut tally = Tally::new("11 read_packet, all words, against the packets of the source");
-    let mut random = Random::new(12);
     let mut read = 0;
     for word in 0..1 << 16 {
         let answer = frame(&mut tally, Call::ReadPacket(word));
         read += u64::from(answer.returned == 0);
-        // The low 16 bits count.
-        let high = random.word() << 16;
-        frame(&mut tally, Call::ReadPacket(high | word));
     }
-    tally.expect("words read", read, 2 * 2 * 2048);
+    tally.expect("words read", read, PACKETS);
+    tally
+}
+
+/// A wide word is no packet, even where its low sixteen bits are one.
+pub fn wide_words() -> Tally {
+    let mut tally = Tally::new("11 read_packet, wide words, most of them above a packet");
+    let mut random = Random::new(12);
+    let mut refused = 0;
+    for word in 0..1 << 16 {
+        let high = random.word() << 16 | 1 << random.below(16) << 16;
+        frame(&mut tally, Call::ReadPacket(high | word));
+        if plain_frames::read_packet(word).is_ok() {
+            for bit in 16..32 {
+                let answer = frame(&mut tally, Call::ReadPacket(1 << bit | word));
+                refused += u64::from(answer.returned == 15);
+            }
+        }
+    }
+    tally.expect("refused above a packet", refused, 16 * PACKETS);
     tally
 }

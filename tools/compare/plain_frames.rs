@@ -27,8 +27,10 @@ fn table() -> &'static [Option<Frame>] {
     })
 }
 
+/// A packet has sixteen bits: a wider word is none, whatever its low bits say.
 pub fn read_packet(packet: u32) -> Result<Frame, u32> {
-    table()[usize::from(packet as u16)].ok_or(15)
+    let word = u16::try_from(packet).map_err(|_| 15u32)?;
+    table()[usize::from(word)].ok_or(15)
 }
 
 /// A sequence says what the packet does that the source encodes as it. With unlike high times there

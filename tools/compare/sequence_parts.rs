@@ -1,4 +1,4 @@
-//! Parts 13 and 14: packets as duties, and sequences of duties that are read back.
+//! Parts 13 and 14: bits and packets as duties, and sequences of duties that are read back.
 
 use crate::frame_call::{Call, Left};
 use crate::frame_check::frame;
@@ -8,6 +8,22 @@ use crate::timings::{self, EQUAL, ODD};
 
 const PACKETS: [u32; 6] = [0, 0xffff, 0x5555, 0xaaaa, 0x8001, 0x1234];
 const DUTIES: [u32; 8] = [0, 1, 2, 3, 7, 279, 43691, 65535];
+
+/// Every flag but 0 is yes, also one whose low bits are 0.
+const FLAGS: [u32; 7] = [0, 1, 2, 256, 1 << 16, 1 << 31, u32::MAX];
+
+pub fn duty_for_bit() -> Tally {
+    let mut tally = Tally::new("13 duty_for_bit, random timings");
+    let mut random = Random::new(24);
+    let any = (0..100_000).map(|_| [(); 4].map(|()| random.word() as u16));
+    let known = ODD.into_iter().chain(EQUAL).chain([timings::dshot600()]);
+    for timing in known.chain(any) {
+        for set in FLAGS {
+            frame(&mut tally, Call::DutyForBit(timing, set));
+        }
+    }
+    tally
+}
 
 /// Of both numbers the low 16 bits count.
 pub fn encode_packet() -> Tally {

@@ -28,7 +28,7 @@ impl Answer {
     }
 }
 
-fn wide8(x: u8) -> u64 {
+pub(crate) fn wide8(x: u8) -> u64 {
     x as u64
 }
 

@@ -81,6 +81,49 @@ pub(crate) fn run(numbers: &[u64]) -> Verdict {
     Verdict::Same
 }
 
+// Whether a run has these commands, this index and so many repeats left.
+fn is_run(run: DshotCommandSequence, commands: [u16; 2], index: u64, left: u64) -> bool {
+    let found = run.commands;
+    if !capture::same(&found, &commands) {
+        return false;
+    }
+    if answers::wide8(run.index) != index {
+        return false;
+    }
+    answers::wide8(run.repeats_left) == left
+}
+
+// 22 COMMAND*2 INDEX LEFT GIVEN COMMAND INDEX LEFT, where the last two are the run after the step
+pub(crate) fn step(numbers: &[u64]) -> Verdict {
+    if numbers.len() != 9 {
+        return Verdict::Unreadable;
+    }
+    let index = numbers[3];
+    let left = numbers[4];
+    if index > 255 {
+        return Verdict::Unreadable;
+    }
+    if left > 255 {
+        return Verdict::Unreadable;
+    }
+    let mut commands = [0u16; 2];
+    let given = capture::listed(&numbers[1..3], &mut commands);
+    if !given.is_readable {
+        return Verdict::Unreadable;
+    }
+    let sequence = DshotCommandSequence {
+        commands,
+        index: index as u8,
+        repeats_left: left as u8,
+    };
+    let next = sequence.next_value();
+    let value = next.value;
+    if !is_command(value, numbers[5], numbers[6]) {
+        return Verdict::Differs;
+    }
+    judge(is_run(next.sequence, commands, numbers[7], numbers[8]))
+}
+
 // 19 STARTED DURATION NOW EXPIRED
 pub(crate) fn lease(numbers: &[u64]) -> Verdict {
     if numbers.len() != 5 {

@@ -7,6 +7,7 @@
 mod answers;
 mod capture;
 mod commands;
+mod constants;
 mod frame_answers;
 mod frames;
 mod numbers;

@@ -1,5 +1,5 @@
-// Replays one record, by its kind: 1 to 7 here, packets and timings in frames.rt, sequences in sequences.rt, and throttles, commands and leases
-// in commands.rt.
+// Replays one record, by its kind: 1 to 7 here, packets and timings in frames.rt, sequences in sequences.rt, throttles, commands and leases
+// in commands.rt, and the constants in constants.rt.
 //
 // A refusal is 0 for none, or its number, and then the answer's other numbers are 0. EDT is 0 or 1. A capture is given as runs of equal
 // samples, at most 512 samples in all. A record is unreadable where it has too few or too many numbers, or one that the call cannot take.
@@ -9,6 +9,7 @@ use crate::capture;
 use crate::capture::MOST_SAMPLES;
 use crate::capture::UNTOUCHED;
 use crate::commands;
+use crate::constants;
 use crate::frames;
 use crate::sequences;
 use crate::verdict::Verdict;
@@ -196,6 +197,8 @@ pub(crate) fn replay(numbers: &[u64]) -> Verdict {
         19 => commands::lease(numbers),
         20 => frames::read(numbers),
         21 => sequences::read(numbers),
+        22 => commands::step(numbers),
+        23 => constants::constants(numbers),
         _ => Verdict::Unreadable,
     }
 }

@@ -4,7 +4,7 @@ use crate::verdict::Verdict;
 use libc::STDOUT_FILENO;
 
 // The kinds of records, and one more: the kinds count from 1.
-pub const KINDS: usize = 22;
+pub const KINDS: usize = 24;
 
 // One more, up to the largest number, which no list comes near.
 pub(crate) fn one_more(n: u64) -> u64 {
@@ -71,6 +71,9 @@ pub(crate) fn counts(compared: &[u64; KINDS], differing: &[u64; KINDS]) {
     print_counts(b"simulate::period_value: ", compared[6], differing[6]);
     print_counts(b"simulate::simulate_reply: ", compared[7], differing[7]);
     frame_counts(compared, differing);
+    command_counts(compared, differing);
+    reader_counts(compared, differing);
+    print_counts(b"constants of dshot.rs: ", compared[23], differing[23]);
     print_counts(b"", compared[0], differing[0]);
 }
 
@@ -91,6 +94,9 @@ fn frame_counts(compared: &[u64; KINDS], differing: &[u64; KINDS]) {
     print_counts(b"DshotTiming::from_clocks: ", compared[13], differing[13]);
     print_counts(b"encode_packet: ", compared[14], differing[14]);
     print_counts(b"encode_compare_sequence: ", compared[15], differing[15]);
+}
+
+fn command_counts(compared: &[u64; KINDS], differing: &[u64; KINDS]) {
     print_counts(b"throttle_to_dshot: ", compared[16], differing[16]);
     print_counts(b"throttles_to_dshot: ", compared[17], differing[17]);
     print_counts(
@@ -98,7 +104,15 @@ fn frame_counts(compared: &[u64; KINDS], differing: &[u64; KINDS]) {
         compared[18],
         differing[18],
     );
+    print_counts(
+        b"DshotCommandSequence::next_value, any run: ",
+        compared[22],
+        differing[22],
+    );
     print_counts(b"command_lease_expired: ", compared[19], differing[19]);
+}
+
+fn reader_counts(compared: &[u64; KINDS], differing: &[u64; KINDS]) {
     print_counts(b"read::read_packet: ", compared[20], differing[20]);
     print_counts(
         b"read::read_compare_sequence: ",

@@ -5,7 +5,14 @@
 // milliseconds 64 bits; where one is wider than what it stands for, the call says what counts. A flag of 0 is no, any other yes. No `bool`, enum
 // or struct is passed.
 
-// Packets, timing, duties, throttles, command runs and leases.
-pub mod frame;
+// Throttles, command runs and leases.
+pub mod command;
+// Packets and sequences, read.
+pub mod frame_read;
+// Packets.
+pub mod packet;
 // Replies and the simulated ESC.
 pub mod reply;
+mod slots;
+// Timing, duties and sequences.
+pub mod timing;

@@ -1,0 +1,130 @@
+// Added: the exported calls on packets. They wrap those of the crate `dshot`.
+
+use crate::slots;
+use dshot::ChecksumKind;
+use dshot::DshotPacket;
+use dshot::MotorPackets;
+use dshot::MotorValues;
+use dshot::PacketMade;
+use dshot::TelemetryLane;
+ghost use mathlib.Core.Path.{_≡_};
+ghost use mathlib.Core.Bool.{not};
+ghost use lib.Dec.{eqb};
+ghost use lib.ListN.{length};
+ghost use Rattle.dshot_reply_spec.specs.Answer.{given, refusalNumber, filled};
+ghost use Rattle.dshot_spec.specs.Packet.{plain, inverted, packetWord, tryPacket, lane, motorPackets};
+ghost use Rattle.dshot.specs.Answers.{kindOf, words};
+ghost use Rattle.kuzhenga.specs.Slots.{asked, one};
+
+// The plain packet of `value` modulo 2048.
+#[no_mangle]
+pub extern "C" fn kuzhenga_packet_from_value(value: u32, telemetry: u32) -> u32
+    ensures { λ r. ⌜ r ≡ packetWord plain value (not (eqb telemetry 0)) ⌝ }
+{
+    let packet = DshotPacket::from_value((value % 2048) as u16, telemetry != 0);
+    packet.0 as u32
+}
+
+// The packet of `value` modulo 2048 for a bidirectional-DShot ESC.
+#[no_mangle]
+pub extern "C" fn kuzhenga_packet_from_value_bidirectional(value: u32, telemetry: u32) -> u32
+    ensures { λ r. ⌜ r ≡ packetWord inverted value (not (eqb telemetry 0)) ⌝ }
+{
+    let packet = DshotPacket::from_value_bidirectional((value % 2048) as u16, telemetry != 0);
+    packet.0 as u32
+}
+
+// The plain packet of a value up to 2047, in one slot.
+#[no_mangle]
+pub extern "C" fn kuzhenga_packet_try_from_value(
+    value: u32,
+    telemetry: u32,
+    packet: &mut [u16],
+) -> u32
+    ensures { λ r. ⌜ r ≡ refusalNumber (asked 1 (now (packet .entry)) (tryPacket value (not (eqb telemetry 0)))) ⌝ }
+    ensures { λ r. ⌜ now (packet .exit) ≡ filled one (now (packet .entry)) (asked 1 (now (packet .entry)) (tryPacket value (not (eqb telemetry 0)))) ⌝ }
+{
+    if packet.len() != 1 {
+        return 13;
+    }
+    if value > 65535 {
+        return 5;
+    }
+    match DshotPacket::try_from_value(value as u16, telemetry != 0) {
+        PacketMade::Packet(made) => {
+            packet[0] = made.0;
+            0
+        }
+        PacketMade::Refused(error) => error.number(),
+    }
+}
+
+// The packets of four motors, with either checksum.
+fn packets_of(kind: ChecksumKind, values: MotorValues, telemetry_lane: usize) -> MotorPackets
+    ensures { λ r. ⌜ words r ≡ motorPackets 4 (kindOf kind) values (lane «telemetry_lane») ⌝ }
+{
+    match kind {
+        ChecksumKind::Plain => {
+            dshot::four_motor_packets(values, TelemetryLane::Lane(telemetry_lane))
+        }
+        ChecksumKind::Inverted => {
+            dshot::four_motor_bidirectional_packets(values, TelemetryLane::Lane(telemetry_lane))
+        }
+    }
+}
+
+// Puts the words of four packets into four slots.
+fn put_words(packets: MotorPackets, out: &mut [u16])
+    requires { ⌜ length (now out) ≡ 4 ⌝ }
+    ensures { λ r. ⌜ now (out .exit) ≡ words packets ⌝ }
+{
+    slots::put_four(out, packets[0].0, packets[1].0, packets[2].0, packets[3].0);
+}
+
+fn put_packets(
+    kind: ChecksumKind,
+    values: &[u16],
+    telemetry_lane: usize,
+    packets: &mut [u16],
+) -> u32
+    ensures { λ r. ⌜ r ≡ refusalNumber (asked 4 (now (values .entry)) (asked 4 (now (packets .entry)) (given (motorPackets 4 (kindOf kind) (now (values .entry)) (lane «telemetry_lane»))))) ⌝ }
+    ensures { λ r. ⌜ now (packets .exit) ≡ filled (λ l. l) (now (packets .entry)) (asked 4 (now (values .entry)) (asked 4 (now (packets .entry)) (given (motorPackets 4 (kindOf kind) (now (values .entry)) (lane «telemetry_lane»))))) ⌝ }
+{
+    if values.len() != 4 {
+        return 13;
+    }
+    if packets.len() != 4 {
+        return 13;
+    }
+    put_words(
+        packets_of(kind, slots::four_values(values), telemetry_lane),
+        packets,
+    );
+    0
+}
+
+// The plain packets of four motors; a telemetry lane above 3 marks none.
+#[no_mangle]
+pub extern "C" fn kuzhenga_four_motor_packets(
+    values: &[u16],
+    telemetry_lane: usize,
+    packets: &mut [u16],
+) -> u32
+    ensures { λ r. ⌜ r ≡ refusalNumber (asked 4 (now (values .entry)) (asked 4 (now (packets .entry)) (given (motorPackets 4 plain (now (values .entry)) (lane «telemetry_lane»))))) ⌝ }
+    ensures { λ r. ⌜ now (packets .exit) ≡ filled (λ l. l) (now (packets .entry)) (asked 4 (now (values .entry)) (asked 4 (now (packets .entry)) (given (motorPackets 4 plain (now (values .entry)) (lane «telemetry_lane»))))) ⌝ }
+{
+    put_packets(ChecksumKind::Plain, values, telemetry_lane, packets)
+}
+
+// The same for bidirectional-DShot ESCs.
+#[no_mangle]
+pub extern "C" fn kuzhenga_four_motor_bidirectional_packets(
+    values: &[u16],
+    telemetry_lane: usize,
+    packets: &mut [u16],
+) -> u32
+    ensures { λ r. ⌜ r ≡ refusalNumber (asked 4 (now (values .entry)) (asked 4 (now (packets .entry)) (given (motorPackets 4 inverted (now (values .entry)) (lane «telemetry_lane»))))) ⌝ }
+    ensures { λ r. ⌜ now (packets .exit) ≡ filled (λ l. l) (now (packets .entry)) (asked 4 (now (values .entry)) (asked 4 (now (packets .entry)) (given (motorPackets 4 inverted (now (values .entry)) (lane «telemetry_lane»))))) ⌝ }
+{
+    put_packets(ChecksumKind::Inverted, values, telemetry_lane, packets)
+}

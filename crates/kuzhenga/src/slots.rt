@@ -1,0 +1,41 @@
+// Added: four slots as values or as a timing, and four numbers put into slots, for the exported calls.
+
+use dshot::DshotTiming;
+use dshot::MotorValues;
+ghost use mathlib.Core.Path.{_≡_};
+ghost use mathlib.Core.List.{[], _∷_};
+ghost use lib.ListN.{length};
+ghost use Rattle.dshot.specs.Answers.{timingOf};
+ghost use Rattle.kuzhenga.specs.FrameSlots.{timingAt};
+
+// Four slots as the values of the motors.
+pub(crate) fn four_values(slots: &[u16]) -> MotorValues
+    requires { ⌜ length (now slots) ≡ 4 ⌝ }
+    ensures { λ r. ⌜ r ≡ now (slots .entry) ⌝ }
+{
+    [slots[0], slots[1], slots[2], slots[3]]
+}
+
+// Fills four slots.
+pub(crate) fn put_four(out: &mut [u16], a: u16, b: u16, c: u16, d: u16)
+    requires { ⌜ length (now out) ≡ 4 ⌝ }
+    ensures { λ r. ⌜ now (out .exit) ≡ a ∷ b ∷ c ∷ d ∷ [] ⌝ }
+{
+    out[0] = a;
+    out[1] = b;
+    out[2] = c;
+    out[3] = d;
+}
+
+// Four slots as a timing.
+pub(crate) fn timing_at(slots: &[u16]) -> DshotTiming
+    requires { ⌜ length (now slots) ≡ 4 ⌝ }
+    ensures { λ r. ⌜ timingOf r ≡ timingAt (now (slots .entry)) ⌝ }
+{
+    DshotTiming {
+        arr: slots[0],
+        zero_high: slots[1],
+        one_high: slots[2],
+        reply_sample_arr: slots[3],
+    }
+}
