@@ -37,9 +37,7 @@ fn command_run(reversed: u32, steps: usize) -> String {
 const COMMANDS: [[u16; 2]; 5] = [[20, 12], [21, 12], [1, 47], [0, 65535], [65535, 0]];
 
 fn steps() {
-    println!(
-        "# single steps of runs of any fields, with document 01's answers: the Rust's fields are"
-    );
+    println!("# single steps of any run, by a plain construction: the Rust's fields are");
     println!("# private, and but for a few of these it cannot make such runs");
     let pairs = COMMANDS.into_iter().cycle();
     let indices = [0, 1, 2, 3, 255].into_iter();

@@ -1,10 +1,11 @@
 -- The definitions that give each enum and struct document 01's numbers and values are injective, so the equation of a promise determines the
 -- answer.
 -- Assumes nothing.
-use mathlib.Core.Path.{_≡_, refl, sym, ap, _∙_}
+use mathlib.Core.Path.{_≡_, refl, ap}
 use mathlib.Core.List.{List, [], _∷_, map}
 use Prim.Native.Nat.{ℕ}
 use lib.Dec.{eqb}
+use Rattle.dshot_reply_spec.proofs.Inverse.{injective}
 use Rattle.dshot_reply_spec.specs.Answer.{Answer, given, refused, pick}
 use Rattle.dshot_spec.specs.Packet.{Kind, plain, inverted, Frame}
 use Rattle.dshot_spec.specs.Packet as Packet
@@ -38,10 +39,6 @@ use Rattle.dshot.specs.declared.read.FrameReadError.{FrameReadError}
 use Rattle.dshot.specs.declared.read.FrameReadError.the-variants as Error
 use Rattle.dshot.specs.declared.read.FrameRead.{FrameRead}
 use Rattle.dshot.specs.declared.read.FrameRead.the-variants as Read
-
--- a function that has a left inverse is injective
-injective : {A B : Type 0} (f : A → B) (back : B → A) → ((a : A) → back (f a) ≡ a) → (a b : A) → f a ≡ f b → a ≡ b
-injective f back undone a b e = sym (undone a) ∙ ap back e ∙ undone b
 
 -- ---- packets
 

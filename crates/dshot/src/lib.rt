@@ -4,6 +4,7 @@
 //
 // DShot frames: the packet word of a value, the timer counts and the duties that it is sent as, and runs of special commands.
 
+use dshot_reply::REPLY_SAMPLES_PER_BIT;
 ghost use mathlib.Core.Path.{_≡_};
 ghost use Prim.Native.Nat.{_+_, _-_, _%_, _≤_, _<_, min};
 ghost use lib.Dec.{ltb};
@@ -15,7 +16,6 @@ ghost use Rattle.dshot_spec.specs.Throttle.{throttleValue, throttleValues};
 ghost use Rattle.dshot_spec.specs.Command.{spinDirection, counted, nextValue};
 ghost use Rattle.dshot_spec.specs.Lease.{leaseExpired};
 ghost use Rattle.dshot.specs.Answers.{frameErrorNumber, packetAnswer, kindOf, words, laneOf, timingErrorNumber, timingAnswer, timingOf, encodedNumber, firstAnswer, runOf, nextOf};
-use dshot_reply::REPLY_SAMPLES_PER_BIT;
 
 // The readers, which are not in the source.
 pub mod read;
@@ -336,7 +336,7 @@ pub fn encode_compare_sequence(
     if dma_output.len() != COMPARE_DMA_SLOTS {
         return Sequenced::WrongLength;
     }
-    // Read once: a field that is picked in the loop costs a shift of the whole struct.
+    // Read before the loop: picked in it, each would be shifted out of the struct again, which the compiler passes as one number.
     let zero = timing.duty_for_bit(false);
     let one = timing.duty_for_bit(true);
     let mut index = 0;
@@ -376,7 +376,7 @@ pub fn throttles_to_dshot(values: MotorValues) -> MotorValues
     out
 }
 
-// DShot special commands this firmware sends. Values 1-47 are commands, not throttle; ESCs act on them only with the telemetry bit set, while
+// DShot special commands that a run sends. Values 1-47 are commands, not throttle; ESCs act on them only with the telemetry bit set, while
 // the motor is stopped, and after several identical frames.
 pub const DSHOT_CMD_SAVE_SETTINGS: u16 = 12;
 

@@ -3,6 +3,7 @@
 use mathlib.Core.Path.{_≡_, refl, sym, ap, _∙_}
 use Prim.Native.Nat.{ℕ}
 use lib.Dec.{eqb}
+use Rattle.dshot_reply_spec.proofs.Inverse.{injective}
 use Rattle.dshot_reply_spec.specs.Answer.{Answer, given, refused, pick}
 use Rattle.dshot_reply_spec.specs.Value.{Reading, erpm, temp, volt, amp, debug, state, edt}
 use Rattle.dshot_reply.specs.Answers.{errorNumber, transitionsAnswer, decodedAnswer, reading, replyAnswer, periodAnswer, simulatedNumber}
@@ -20,10 +21,6 @@ use Rattle.dshot_reply.specs.declared.simulate.PeriodValue.{PeriodValue}
 use Rattle.dshot_reply.specs.declared.simulate.PeriodValue.the-variants as Period
 use Rattle.dshot_reply.specs.declared.simulate.Simulated.{Simulated}
 use Rattle.dshot_reply.specs.declared.simulate.Simulated.the-variants.{Written, NoMask, WrongLength}
-
--- a function that has a left inverse is injective
-injective : {A B : Type 0} (f : A → B) (back : B → A) → ((a : A) → back (f a) ≡ a) → (a b : A) → f a ≡ f b → a ≡ b
-injective f back undone a b e = sym (undone a) ∙ ap back e ∙ undone b
 
 errorOf : ℕ → DshotReplyError
 errorOf n = pick (eqb n 7) NoReply (pick (eqb n 8) Overlong (pick (eqb n 9) InvalidSymbol (pick (eqb n 10) Checksum ZeroPeriod)))

@@ -2,6 +2,7 @@ pub mod Table
 pub mod Cases
 pub mod Choice
 pub mod Answered
+pub mod Inverse
 pub mod XorLaws
 pub mod GcrLaws
 pub mod Decode

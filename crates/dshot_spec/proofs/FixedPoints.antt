@@ -2,7 +2,6 @@
 -- Assumes nothing.
 use mathlib.Core.Path.{refl}
 use mathlib.Core.Logic.{inr}
-use native.Mathlib.Omega.{arith}
 use lib.Dec.{lit<}
 use Rattle.dshot_reply_spec.specs.Gcr.{replyWord, wordOf}
 use Rattle.dshot_reply_spec.specs.Move.{Moved}

@@ -1,9 +1,9 @@
--- The packet word and the duties of a frame are the bits that the document describes (specs/Betaflight), in their order.
+-- The packet word and the duties of a sequence are the bits that the document describes (specs/Betaflight), in their order.
 -- Assumes nothing.
 use mathlib.Core.Path.{_≡_, refl, sym, ap, _∙_}
 use mathlib.Core.Bool.{Bool, true, false}
 use mathlib.Core.List.{List, [], _∷_, _++_, map}
-use Prim.Native.Nat.{ℕ, zero, suc, _+_, _*_, _-_, _/_, _%_, _^_, _<_}
+use Prim.Native.Nat.{ℕ, zero, suc, _+_, _*_, _-_, _%_, _^_, _<_}
 use native.Mathlib.Nat.{mod-one}
 use native.Mathlib.Omega.{arith}
 use lib.Bits.{bitXor}

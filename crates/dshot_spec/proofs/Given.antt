@@ -1,4 +1,4 @@
--- What the test of a choice was, and what a step was given, where something is given in the end.
+-- Where a choice or a chain of steps ends in `given`: how its tests came out, and what each step was given.
 -- Assumes nothing.
 use mathlib.Core.Path.{_≡_, refl}
 use mathlib.Core.Logic.{_⊎_, inl, inr}

@@ -6,3 +6,4 @@ pub mod SequenceReads
 pub mod CommandRuns
 pub mod FrameDocuments
 pub mod FixedPoints
+pub mod LeaseLaws

@@ -105,11 +105,11 @@ unfolding packetWord
 packet-reads k v t h = word-read k (payload v t) ∙ ap given (frame-of k v t h)
 
 -- the word is the packet of the frame
-abbrev Packed : ℕ → Frame → Type 0
-Packed w f = (f .value < 2048) × (w ≡ packetWord (f .kind) (f .value) (f .telemetry))
+abbrev PacketOf : ℕ → Frame → Type 0
+PacketOf w f = (f .value < 2048) × (w ≡ packetWord (f .kind) (f .value) (f .telemetry))
 
 -- a word with the checksum of its kind is the packet of its payload
-packed : (k : Kind) (w : ℕ) → w < 65536 → w % 16 ≡ sent k (checksum (w / 16)) → Packed w (frameOf k (w / 16))
+packed : (k : Kind) (w : ℕ) → w < 65536 → w % 16 ≡ sent k (checksum (w / 16)) → PacketOf w (frameOf k (w / 16))
 unfolding packetWord
 packed k w h e =
     let p = w / 16 in
@@ -127,5 +127,5 @@ packet-read w f h e =
     read inverted (eqb-true (w % 16) (sent inverted (checksum p)) (r .0)) (r .1))
     (either-given (eqb (w % 16) (checksum p)) e)
   where
-    read : (k : Kind) → w % 16 ≡ sent k (checksum (w / 16)) → given (frameOf k (w / 16)) ≡ given f → Packed w f
-    read k q r = let same : frameOf k (w / 16) ≡ f = cc in subst (Packed w) same (packed k w h q)
+    read : (k : Kind) → w % 16 ≡ sent k (checksum (w / 16)) → given (frameOf k (w / 16)) ≡ given f → PacketOf w f
+    read k q r = let same : frameOf k (w / 16) ≡ f = cc in subst (PacketOf w) same (packed k w h q)

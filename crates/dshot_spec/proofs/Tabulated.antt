@@ -2,7 +2,7 @@
 -- Assumes nothing.
 use mathlib.Core.Path.{_≡_, _∙_, refl, sym, ap}
 use Prim.Native.Nat.{ℕ, zero, suc, _+_, _<_, _≤_}
-use mathlib.Core.List.{List, [], _∷_, _++_, map, append-nil, map-append}
+use mathlib.Core.List.{List, [], _∷_, _++_, append-nil}
 use native.Mathlib.Omega.{arith}
 use native.Mathlib.Decide.{decLt}
 use native.Mathlib.Numerals.{add-one}
@@ -31,24 +31,6 @@ module _ {A : Type 0} (f : ℕ → A) where
       side : Dec (k < n) → (k < n → getD (tabulate n f) k d ≡ f k) → getD (tabulate n f ++ (f n ∷ [])) k d ≡ f k
       side (yes p) r = List·getD-append (tabulate n f) (f n ∷ []) d k (omega (arith, length-tabulate n)) ∙ r p
       side (no q) r = let e : k ≡ n = omega arith in rw e (getD-at (tabulate n f) (f n) [] d n (length-tabulate n))
-
--- the first entry, and then those of the places after it
-pub tabulate-front : {A : Type 0} (f : ℕ → A) (n : ℕ) → tabulate (suc n) f ≡ f 0 ∷ tabulate n (λ i. f (suc i))
-unfolding tabulate
-tabulate-front f zero = refl
-tabulate-front f (suc n) = rw (tabulate-front f n)
-
--- functions that agree at every place make the same list
-pub tabulate-same : {A : Type 0} (f g : ℕ → A) (n : ℕ) → ((i : ℕ) → i < n → f i ≡ g i) → tabulate n f ≡ tabulate n g
-unfolding tabulate
-tabulate-same f g zero h = refl
-tabulate-same f g (suc n) h = cc (h n (omega arith), tabulate-same f g n (λ i l. h i (omega arith)))
-
--- what is made of each entry
-pub map-tabulate : {A B : Type 0} (h : A → B) (f : ℕ → A) (n : ℕ) → map h (tabulate n f) ≡ tabulate n (λ i. h (f i))
-unfolding tabulate
-map-tabulate h f zero = refl
-map-tabulate h f (suc n) = map-append h (tabulate n f) (f n ∷ []) ∙ rw (map-tabulate h f n)
 
 -- an array whose first i entries are filled by f
 pub record Filled {A : Type 0} (n : ℕ) (f : ℕ → A) (xs : List A) (i : ℕ) (out : List A) : Type 0 where

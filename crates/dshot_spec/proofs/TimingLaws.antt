@@ -1,4 +1,4 @@
--- What a timing that is given says of its clocks: the high times differ, and every count fits in sixteen bits.
+-- Quotients to the nearest, and the laws of a timing that is given: its clocks, its counts, its high times and its shortest period.
 -- Assumes nothing.
 use mathlib.Core.Path.{_≡_, ap, _∙_}
 use Prim.Native.Nat.{ℕ, _+_, _*_, _/_, _^_, _<_, _≤_}
@@ -9,7 +9,7 @@ use mathlib.Core.Bool.{Bool, true, false}
 use borrow.Author.Tests.{eqb-false, ltb-false}
 use Rattle.dshot_reply_spec.specs.Answer.{given, periodTooLong, periodTooShort, zeroBitrate, zeroTimerClock}
 use Rattle.dshot_spec.proofs.Given.{second-given}
-use Rattle.dshot_spec.specs.Timing.{ClocksGiven, Timing, dutyForBit, fromClocks, nearest, replySampleHz, timingOf}
+use Rattle.dshot_spec.specs.Timing.{ClocksGiven, Timing, dutyForBit, fromClocks, nearest, replySampleHz}
 use Rattle.dshot_spec.specs.Betaflight.{NearestTick, highEighths}
 
 -- ---- quotients to the nearest

@@ -29,7 +29,7 @@ pub record Next : Type 0 where
   pub command : Command
   pub run : CommandRun
 
--- the run after a command has been sent, which leaves it to be sent so often: after the last time the next command is due
+-- the run after a frame, with `left` frames of its command to go; at 0 the next command is due
 abbrev pub counted : ℕ → CommandRun → ℕ → CommandRun
 counted repeats run left =
     pick (eqb left 0)

@@ -32,7 +32,7 @@ abbrev pub flag : Bool → ℕ
 flag true = 1
 flag false = 0
 
--- eleven bits of value, of which higher bits are dropped, and the telemetry bit below them
+-- the lowest eleven bits of the value, and the telemetry bit below them
 abbrev pub payload : ℕ → Bool → ℕ
 payload value telemetry = 2 * (value % 2048) + flag telemetry
 

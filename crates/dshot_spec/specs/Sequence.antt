@@ -53,7 +53,7 @@ firstDuty a = then a (λ s. given (s .first))
 
 -- ---- the reader
 
--- the bit that a duty stands for
+-- the bit that a duty stands for, or a refusal where it is neither high time
 abbrev pub dutyBit : Timing → ℕ → Answer ℕ
 dutyBit t d = pick (eqb d (t .oneHigh)) (given 1) (pick (eqb d (t .zeroHigh)) (given 0) (refused wrongDuty))
 

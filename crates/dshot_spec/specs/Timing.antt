@@ -24,16 +24,16 @@ abbrev pub replySampleHz : ℕ → ℕ → ℕ
 replySampleHz s bitrate = bitrate * (5 * s) / 4
 
 -- the counts of a period p and a reply sample period q
-abbrev pub timingOf : ℕ → ℕ → Timing
-timingOf p q = record { arr = p - 1; zeroHigh = (3 * p + 4) / 8; oneHigh = (3 * p + 2) / 4; replySampleArr = q - 1 }
+abbrev pub countsOf : ℕ → ℕ → Timing
+countsOf p q = record { arr = p - 1; zeroHigh = (3 * p + 4) / 8; oneHigh = (3 * p + 2) / 4; replySampleArr = q - 1 }
 
--- whether periods p and q can be timed
+-- the counts of periods p and q, or why they cannot be timed
 abbrev pub timed : ℕ → ℕ → Answer Timing
 timed p q =
     pick (ltb p 4) (refused periodTooShort)
     (pick (ltb 65536 p) (refused periodTooLong)
     (pick (ltb q 2) (refused periodTooShort)
-    (given (timingOf p q))))
+    (given (countsOf p q))))
 
 -- s samples a bit, a timer clock and a bit rate
 unfoldable pub fromClocks : ℕ → ℕ → ℕ → Answer Timing
@@ -49,7 +49,7 @@ pub record ClocksGiven (s clock bitrate : ℕ) (t : Timing) : Type 0 where
   pub long : 4 ≤ nearest clock bitrate
   pub short : nearest clock bitrate ≤ 65536
   pub sampled : 2 ≤ nearest clock (replySampleHz s bitrate)
-  pub counts : t ≡ timingOf (nearest clock bitrate) (nearest clock (replySampleHz s bitrate))
+  pub counts : t ≡ countsOf (nearest clock bitrate) (nearest clock (replySampleHz s bitrate))
 
 -- the high time of a bit
 abbrev pub dutyForBit : Timing → Bool → ℕ

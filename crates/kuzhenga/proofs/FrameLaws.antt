@@ -1,6 +1,6 @@
 -- What the exported calls on frames need of the definitions: throttles above 2000, spent runs, first duties and their refusals.
 -- Assumes nothing.
-use mathlib.Core.Path.{_≡_, refl, sym, ap, _∙_}
+use mathlib.Core.Path.{_≡_, refl, sym, ap}
 use mathlib.Core.Bool.{Bool, true, false}
 use mathlib.Core.List.{List, _∷_}
 use Prim.Native.Nat.{ℕ, _+_, _%_, _<_, min}
@@ -10,7 +10,7 @@ use lib.ListN.{length, getD, take}
 use borrow.Author.Tests.{eq-eqb, ne-eqb, le-ltb, lt-ltb}
 use Rattle.dshot_reply_spec.proofs.Choice.{not-both}
 use Rattle.dshot_reply_spec.specs.Answer.{Answer, given, refused, pick, then, wrongDuty, wrongLength}
-use Rattle.dshot_spec.specs.Command.{CommandRun, Next, none, send, counted, nextValue}
+use Rattle.dshot_spec.specs.Command.{CommandRun, none, send, counted, nextValue}
 use Rattle.dshot_spec.specs.Packet.{Frame, readPacket}
 use Rattle.dshot_spec.specs.Sequence.{Sequence, firstDuty, readSequence, wordFrom}
 use Rattle.dshot_spec.specs.Throttle.{throttleValue}
@@ -48,7 +48,7 @@ same : {A : Type 0} (b : Bool) (x : A) → pick b x x ≡ x
 same true x = refl
 same false x = refl
 
--- sixteen slots of another number
+-- slots that are not sixteen
 pub not-sixteen : (t : Timing) (s : Sequence) → (length (s .slots) ≡ 16 → ⊥) → readSequence t s ≡ refused wrongLength
 unfolding readSequence
 not-sixteen t s h = rw (ne-eqb (length (s .slots)) 16 h)

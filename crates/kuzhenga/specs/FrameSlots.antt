@@ -39,6 +39,6 @@ kindNumber inverted = 1
 abbrev pub frameSlots : Frame → List ℕ
 frameSlots f = f .value ∷ flag (f .telemetry) ∷ kindNumber (f .kind) ∷ []
 
--- what a number says as a packet; a packet has sixteen bits
+-- what a number says as a packet; a packet has sixteen bits, and no checksum of a larger number fits
 abbrev pub readWide : ℕ → Answer Frame
 readWide w = pick (ltb 65535 w) (refused wrongPacketChecksum) (readPacket w)

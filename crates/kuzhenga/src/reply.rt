@@ -6,7 +6,6 @@ use dshot_reply::ReplyRead;
 use dshot_reply::Transitions;
 use dshot_reply::simulate;
 use dshot_reply::simulate::PeriodValue;
-use dshot_reply::simulate::Simulated;
 ghost use mathlib.Core.Path.{_≡_};
 ghost use mathlib.Core.Bool.{not};
 ghost use Prim.Native.Nat.{_%_};

@@ -1,11 +1,12 @@
 -- `dshot::encode_packet` meets its contract.
 -- Assumes nothing.
-use mathlib.Core.Path.{_≡_, sym, ap, _∙_}
+use mathlib.Core.Path.{_≡_}
 use Prim.Native.Nat.{ℕ, _-_}
 use lib.ListN.{length}
 use mathlib.Core.List.{List}
 use Rattle.dshot_spec.specs.Tabulate.{tabulate}
-use Rattle.dshot_reply_spec.specs.Answer.{given, refused, refusalNumber, filled, wrongLength}
+use Rattle.dshot_reply_spec.proofs.Answered.{refused-so, given-so}
+use Rattle.dshot_reply_spec.specs.Answer.{given, refused, wrongLength}
 use borrow.Author.Tests.{eq-eqb, ne-eqb}
 use Rattle.dshot_spec.proofs.Tabulated.{Filled, filled-none, filled-more, filled-all}
 use Rattle.dshot_spec.specs.Sequence.{frameSlot, encodedPacket}
@@ -25,7 +26,7 @@ returns c =
     let a = c .before .before .args in
     let out = a .output .now in
     let e : encodedPacket out (a .packet .0) (a .max-duty) ≡ refused wrongLength = rw (ne-eqb (length out) 22 (c .if1 .taken)) in
-    (sym (ap refusalNumber e), sym (ap (filled (λ (l : List ℕ). l) out) e))
+    refused-so (λ (l : List ℕ). l) out e
 
 mul-duty-0 : tie.Need-mul-duty-0 Inv-loop μ-loop
 mul-duty-0 c = search needs
@@ -70,7 +71,7 @@ returns-2 c =
     let out = a .output .now in
     let e : encodedPacket out (a .packet .0) (a .max-duty) ≡ given (tabulate 22 (frameSlot (a .packet .0) (a .max-duty))) =
     rw (eq-eqb (length out) 22 (c .before .before .if1 .left)) in
-    (sym (ap refusalNumber e), filled-all (c .before .loop .inv) (c .loop-test .left) ∙ sym (ap (filled (λ (l : List ℕ). l) out) e))
+    given-so (λ (l : List ℕ). l) out e (filled-all (c .before .loop .inv) (c .loop-test .left))
 
 pub encode-packet-spec : {M : Type 1} → statement M
 encode-packet-spec =

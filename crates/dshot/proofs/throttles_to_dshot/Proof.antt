@@ -1,9 +1,7 @@
 -- `dshot::throttles_to_dshot` meets its contract.
 -- Assumes nothing.
-use mathlib.Core.Path.{_≡_, sym, _∙_}
 use Prim.Native.Nat.{ℕ, _-_}
-use native.Mathlib.Omega.{arith}
-use lib.ListN.{length, getD}
+use lib.ListN.{getD}
 use Rattle.dshot_spec.specs.Throttle.{throttleValue, throttleValues}
 use Rattle.dshot_spec.proofs.Tabulated.{Filled, filled-none, filled-more, filled-all}
 use borrow.Author.Needs.{needs}

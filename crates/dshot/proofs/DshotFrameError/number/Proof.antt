@@ -1,7 +1,6 @@
 -- `dshot::DshotFrameError::number` meets its contract.
 -- Assumes nothing.
 use mathlib.Core.Path.{_≡_, refl}
-use Prim.Native.Nat.{ℕ}
 use Rattle.dshot.specs.declared.DshotFrameError.{DshotFrameError}
 use Rattle.dshot.specs.declared.DshotFrameError.the-variants.{ValueOutOfRange}
 use Rattle.dshot.specs.Answers.{frameErrorNumber}

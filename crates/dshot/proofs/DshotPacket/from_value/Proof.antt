@@ -1,7 +1,7 @@
 -- `dshot::DshotPacket::from_value` meets its contract.
 -- Assumes nothing.
-use mathlib.Core.Path.{_≡_, ap, sym, _∙_}
-use Prim.Native.Nat.{ℕ, _+_, _*_, _%_}
+use mathlib.Core.Path.{_≡_, ap, _∙_}
+use Prim.Native.Nat.{_+_, _*_, _%_}
 use native.Mathlib.Omega.{arith}
 use Rattle.dshot_spec.specs.Packet.{packetWord, checksum, payload}
 use Rattle.dshot_spec.proofs.PacketReads.{flag-lt}

@@ -1,8 +1,6 @@
 -- `dshot::DshotPacket::try_from_value` meets its contract.
 -- Assumes nothing.
-use mathlib.Core.Path.{ap, _∙_}
 use borrow.Author.Tests.{lt-ltb, le-ltb}
-use Rattle.dshot_reply_spec.specs.Answer.{given}
 use Rattle.dshot_spec.specs.Packet.{tryPacket}
 use borrow.Author.Needs.{needs}
 use Rattle.dshot.proofs.DshotPacket.try_from_value.Statement.{statement}

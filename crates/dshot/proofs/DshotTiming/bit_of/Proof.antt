@@ -1,7 +1,6 @@
 -- `dshot::DshotTiming::bit_of` meets its contract.
 -- Assumes nothing.
 use borrow.Author.Tests.{eq-eqb, ne-eqb}
-use borrow.Author.Needs.{needs}
 use Rattle.dshot.proofs.DshotTiming.bit_of.Statement.{statement}
 use Rattle.dshot.proofs.DshotTiming.bit_of.Tie as tie
 

@@ -1,11 +1,11 @@
 -- `dshot::DshotTiming::from_clocks` meets its contract.
 -- Assumes nothing.
-use mathlib.Core.Path.{_≡_, _∙_, ap, sym}
-use Prim.Native.Nat.{ℕ, _+_, _*_, _/_, _<_, _≤_}
+use mathlib.Core.Path.{_≡_, _∙_}
+use Prim.Native.Nat.{_+_, _*_, _/_, _<_, _≤_}
 use native.Mathlib.Omega.{arith}
 use lib.Dec.{lit<}
 use borrow.Author.Tests.{eq-eqb, ne-eqb, lt-ltb, le-ltb}
-use Rattle.dshot_spec.specs.Timing.{fromClocks, nearest, replySampleHz}
+use Rattle.dshot_spec.specs.Timing.{fromClocks, nearest}
 use Rattle.dshot_spec.proofs.TimingLaws.{sample-period-fits}
 use Rattle.dshot.proofs.ClockLaws.{clocked}
 use borrow.Author.Needs.{needs}

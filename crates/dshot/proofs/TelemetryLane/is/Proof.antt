@@ -1,6 +1,6 @@
 -- `dshot::TelemetryLane::is` meets its contract.
 -- Assumes nothing.
-use mathlib.Core.Path.{ap, sym, _∙_}
+use mathlib.Core.Path.{ap, sym}
 use borrow.Author.Needs.{needs}
 use Rattle.dshot_spec.specs.Packet.{asks}
 use Rattle.dshot.specs.declared.TelemetryLane.{TelemetryLane}

@@ -1,6 +1,6 @@
 -- `dshot::read::read_packet` meets its contract.
 -- Assumes nothing.
-use mathlib.Core.Path.{_≡_, _∙_, sym, ap}
+use mathlib.Core.Path.{_∙_, sym, ap}
 use Prim.Native.Nat.{ℕ, _/_, _%_}
 use lib.Bits.{bitXor}
 use borrow.Author.Tests.{eq-eqb, ne-eqb}

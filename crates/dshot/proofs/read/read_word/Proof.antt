@@ -2,10 +2,10 @@
 -- Assumes nothing.
 use mathlib.Core.Path.{_≡_, sym, ap, _∙_}
 use mathlib.Core.List.{_∷_}
-use Prim.Native.Nat.{ℕ, _-_}
+use Prim.Native.Nat.{_-_}
 use native.Mathlib.Omega.{arith}
-use lib.ListN.{length, getD}
-use Rattle.dshot_reply_spec.specs.Answer.{Answer, given, refused, wrongDuty}
+use lib.ListN.{getD}
+use Rattle.dshot_reply_spec.specs.Answer.{given, refused, wrongDuty}
 use Rattle.dshot_spec.specs.Sequence.{dutyBit}
 use Rattle.dshot.proofs.ReadLaws.{SoFar, none-yet, one-more, room, no-bit, all-read}
 use Rattle.dshot.specs.Answers.{timingOf}

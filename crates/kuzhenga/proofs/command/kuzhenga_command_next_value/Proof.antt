@@ -1,10 +1,9 @@
 -- `kuzhenga::command::kuzhenga_command_next_value` meets its contract.
 -- Assumes nothing.
-use mathlib.Core.Path.{_≡_, refl, sym, ap, _∙_}
-use mathlib.Core.List.{[], _∷_}
+use mathlib.Core.Path.{sym, ap, _∙_}
 use Rattle.dshot_spec.specs.Command.{Next}
 use Rattle.dshot_spec.specs.Tabulate.{tabulate}
-use Rattle.kuzhenga.specs.FrameSlots.{runSlots, runAt, commandSlots}
+use Rattle.kuzhenga.specs.FrameSlots.{runSlots, commandSlots}
 use Rattle.dshot_reply_spec.proofs.Answered.{refused-both, given-both}
 use Rattle.kuzhenga.proofs.SlotLaws.{asked-not, asked-so, entries}
 use Rattle.kuzhenga.proofs.FrameLaws.{spent}

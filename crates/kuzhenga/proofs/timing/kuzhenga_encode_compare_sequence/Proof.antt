@@ -1,14 +1,14 @@
 -- `kuzhenga::timing::kuzhenga_encode_compare_sequence` meets its contract.
 -- Assumes nothing.
-use mathlib.Core.Path.{refl, sym, ap, _∙_}
+use mathlib.Core.Path.{sym, ap, _∙_}
 use mathlib.Core.List.{[], _∷_}
-use Prim.Native.Nat.{ℕ, _%_}
-use Rattle.dshot_reply_spec.specs.Answer.{given, filled, refusalNumber}
+use Prim.Native.Nat.{_%_}
+use Rattle.dshot_reply_spec.specs.Answer.{given, filled}
 use Rattle.dshot_spec.specs.Sequence.{Sequence, encodedSequence, firstDuty}
 use Rattle.dshot_spec.specs.Timing.{Timing}
 use Rattle.dshot.specs.Answers.{firstAnswer}
 use Rattle.kuzhenga.specs.FrameSlots.{timingAt}
-use Rattle.kuzhenga.specs.Slots.{one, asked}
+use Rattle.kuzhenga.specs.Slots.{one}
 use Rattle.dshot_reply_spec.proofs.Answered.{refused-both, given-both}
 use Rattle.kuzhenga.proofs.SlotLaws.{all-set, asked-not, asked-so}
 use Rattle.kuzhenga.proofs.FrameLaws.{of-sequence, of-refused}
