@@ -7,6 +7,8 @@ use crate::verdict::Verdict;
 use crate::verdict::judge;
 use dshot::DshotPacket;
 use dshot::DshotTiming;
+use dshot::MotorPackets;
+use dshot::MotorValues;
 use dshot::TelemetryLane;
 use dshot::read;
 
@@ -27,25 +29,16 @@ pub(crate) fn tried(numbers: &[u64]) -> Verdict {
     judge(answer.is(numbers[3], 0, numbers[4]))
 }
 
-// 9 VALUE TELEMETRY PACKET
-pub(crate) fn plain(numbers: &[u64]) -> Verdict {
-    if numbers.len() != 4 {
-        return Verdict::Unreadable;
+// A packet with either checksum.
+fn packet_of(inverted: bool, value: u16, telemetry: bool) -> DshotPacket {
+    if inverted {
+        return DshotPacket::from_value_bidirectional(value, telemetry);
     }
-    let value = numbers[1];
-    let telemetry = numbers[2];
-    if value > 65535 {
-        return Verdict::Unreadable;
-    }
-    if telemetry > 1 {
-        return Verdict::Unreadable;
-    }
-    let packet = DshotPacket::from_value(value as u16, telemetry == 1);
-    judge(answers::wide16(packet.0) == numbers[3])
+    DshotPacket::from_value(value, telemetry)
 }
 
-// 10 VALUE TELEMETRY PACKET
-pub(crate) fn inverted(numbers: &[u64]) -> Verdict {
+// 9 VALUE TELEMETRY PACKET, and 10 the same with an inverted checksum
+pub(crate) fn packet(numbers: &[u64], inverted: bool) -> Verdict {
     if numbers.len() != 4 {
         return Verdict::Unreadable;
     }
@@ -57,7 +50,7 @@ pub(crate) fn inverted(numbers: &[u64]) -> Verdict {
     if telemetry > 1 {
         return Verdict::Unreadable;
     }
-    let packet = DshotPacket::from_value_bidirectional(value as u16, telemetry == 1);
+    let packet = packet_of(inverted, value as u16, telemetry == 1);
     judge(answers::wide16(packet.0) == numbers[3])
 }
 
@@ -69,26 +62,16 @@ fn telemetry_lane(asked: u64, lane: u64) -> TelemetryLane {
     TelemetryLane::Lane(lane as usize)
 }
 
-// 11 ASKED LANE VALUE*4 PACKET*4
-pub(crate) fn four_plain(numbers: &[u64]) -> Verdict {
-    if numbers.len() != 11 {
-        return Verdict::Unreadable;
+// The packets of four motors, with either checksum.
+fn packets_of(inverted: bool, values: MotorValues, lane: TelemetryLane) -> MotorPackets {
+    if inverted {
+        return dshot::four_motor_bidirectional_packets(values, lane);
     }
-    if numbers[1] > 1 {
-        return Verdict::Unreadable;
-    }
-    let mut values = [0u16; 4];
-    let given = capture::listed(&numbers[3..7], &mut values);
-    if !given.is_readable {
-        return Verdict::Unreadable;
-    }
-    let lane = telemetry_lane(numbers[1], numbers[2]);
-    let answer = frame_answers::of_packets(dshot::four_motor_packets(values, lane));
-    judge(answer.is(0, numbers[7], numbers[8], numbers[9], numbers[10]))
+    dshot::four_motor_packets(values, lane)
 }
 
-// 12 ASKED LANE VALUE*4 PACKET*4
-pub(crate) fn four_inverted(numbers: &[u64]) -> Verdict {
+// 11 ASKED LANE VALUE*4 PACKET*4, and 12 the same with inverted checksums
+pub(crate) fn four_packets(numbers: &[u64], inverted: bool) -> Verdict {
     if numbers.len() != 11 {
         return Verdict::Unreadable;
     }
@@ -101,7 +84,7 @@ pub(crate) fn four_inverted(numbers: &[u64]) -> Verdict {
         return Verdict::Unreadable;
     }
     let lane = telemetry_lane(numbers[1], numbers[2]);
-    let answer = frame_answers::of_packets(dshot::four_motor_bidirectional_packets(values, lane));
+    let answer = frame_answers::of_packets(packets_of(inverted, values, lane));
     judge(answer.is(0, numbers[7], numbers[8], numbers[9], numbers[10]))
 }
 

@@ -1,4 +1,4 @@
--- `dshot::encode_compare_sequence` meets its contract.
+-- `dshot::encode_compare_sequence` meets its contract: before each turn of the loop the slots so far are filled, and the others are as they were.
 -- Assumes nothing.
 use mathlib.Core.Path.{_≡_, sym, ap, _∙_}
 use Prim.Native.Nat.{ℕ, _-_}

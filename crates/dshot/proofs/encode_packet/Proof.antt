@@ -1,4 +1,4 @@
--- `dshot::encode_packet` meets its contract.
+-- `dshot::encode_packet` meets its contract: before each turn of the loop the slots so far are filled, and the others are as they were.
 -- Assumes nothing.
 use mathlib.Core.Path.{_≡_}
 use Prim.Native.Nat.{ℕ, _-_}

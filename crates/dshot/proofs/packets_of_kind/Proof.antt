@@ -1,4 +1,4 @@
--- `dshot::packets_of_kind` meets its contract.
+-- `dshot::packets_of_kind` meets its contract: before each turn of the loop the packets of the lanes so far are made.
 -- Assumes nothing.
 use mathlib.Core.Path.{_≡_, refl, ap, _∙_}
 use Prim.Native.Nat.{ℕ, _-_}

@@ -1,4 +1,4 @@
--- `dshot::throttles_to_dshot` meets its contract.
+-- `dshot::throttles_to_dshot` meets its contract: before each turn of the loop the values of the lanes so far are made.
 -- Assumes nothing.
 use Prim.Native.Nat.{ℕ, _-_}
 use lib.ListN.{getD}

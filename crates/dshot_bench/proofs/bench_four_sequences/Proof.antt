@@ -1,4 +1,4 @@
--- `dshot_bench::bench_four_sequences` meets its contract.
+-- `dshot_bench::bench_four_sequences` meets its contract: before each turn of the loop the sequences of the lanes so far stand in their parts.
 -- Assumes nothing.
 use mathlib.Core.Path.{_≡_, sym, ap, _∙_}
 use mathlib.Core.List.{List}

@@ -1,4 +1,4 @@
--- `dshot::DshotTiming::from_clocks` meets its contract.
+-- `dshot::DshotTiming::from_clocks` meets its contract: each refusal by its test, and the counts without a bit cut off.
 -- Assumes nothing.
 use mathlib.Core.Path.{_≡_, _∙_}
 use Prim.Native.Nat.{_+_, _*_, _/_, _<_, _≤_}
