@@ -7,6 +7,7 @@ use native.Mathlib.Omega.{arith}
 use lib.ListN.{length, getD, drop-of-length-le}
 use lib.Seq.{ext-getD, sets, sets-eq}
 use borrow.Author.Tests.{eq-eqb, ne-eqb}
+use Rattle.dshot_reply_spec.proofs.Answered.{refused-so}
 use Rattle.dshot_reply_spec.specs.Answer.{Answer, given, refused, refusalNumber, filled, wrongLength}
 use Rattle.dshot_spec.proofs.Tabulated.{length-tabulate, getD-tabulate}
 use Rattle.dshot_spec.specs.Tabulate.{tabulate}
@@ -41,14 +42,14 @@ module _ {A : Type 0} (slots : A → List ℕ) (out : List ℕ) where
   Answers n a r exit = (r ≡ refusalNumber (asked n out a)) × (exit ≡ filled slots out (asked n out a))
 
   pub wrong-length : {n : ℕ} (a : Answer A) → (length out ≡ n → ⊥) → Answers n a 13 out
-  unfolding asked
-  wrong-length {n} a h = rw (ne-eqb (length out) n h) (refl, refl)
+  wrong-length {n} a h = refused-so slots out (asked-not out n a h)
 
   -- an answer that is put into the slots is the call's
   pub passed-on : {n r : ℕ} {a b : Answer A} {exit : List ℕ} → length out ≡ n → b ≡ a
       → r ≡ refusalNumber b → exit ≡ filled slots out b → Answers n a r exit
-  unfolding asked
-  passed-on {n} h e f g = rw (eq-eqb (length out) n h, ← e) (f, g)
+  passed-on {n} {a = a} h e f g =
+      let same = e ∙ sym (asked-so out n a h) in
+      (f ∙ ap refusalNumber same, g ∙ ap (filled slots out) same)
 
   -- what was given, with every slot set
   pub done : {n : ℕ} {a : Answer A} {x : A} → length out ≡ n → given x ≡ a → length (slots x) ≡ n
