@@ -1,0 +1,170 @@
+-- One call of a bank, whichever it is: refused by the port, or what the source does.
+-- Assumes nothing.
+use Prim.Native.Nat.{ℕ, _*_}
+use mathlib.Core.Bool.{Bool, true, false, not}
+use mathlib.Core.List.{List, map}
+use mathlib.Core.Option.{Option, none, some}
+use lib.Dec.{eqb, ltb}
+use lib.ListN.{length, getD, take, drop}
+use Rattle.dshot_reply_spec.specs.Answer.{pick, given, wrongLength}
+use Rattle.dshot_reply_spec.specs.Answer as Reply
+use Rattle.dshot_reply_spec.specs.Value.{Reading}
+use Rattle.dshot_spec.specs.Command.{CommandRun}
+use Rattle.dshot_bank_spec.specs.Lanes.{if_then_else_, isSome}
+use Rattle.dshot_bank_spec.specs.State.{Stats, Core, LaneReply, Bank, Buffers}
+use Rattle.dshot_bank_spec.specs.With.{withFrame, withRepliesHeld, withCore}
+use Rattle.dshot_bank_spec.specs.Order.{Order}
+use Rattle.dshot_bank_spec.specs.Refusals.{noSuchMotor}
+use Rattle.dshot_bank_spec.specs.Commands.{enableBidirectional, commandStop, commandThrottles, commandSpecial, requestTelemetry, cancelTelemetryRequest, clearRequestSent}
+use Rattle.dshot_bank_spec.specs.Service.{ServiceEvent, Served, service}
+use Rattle.dshot_bank_spec.specs.Interrupt.{InterruptEvent, Interrupted, onDmaInterrupt}
+
+-- a call with its arguments, its clock, the hardware's answers and the captures. The calls from is-bidirectional on only look; the last is no
+-- call of the bank: between two calls the caller may write the lent buffers, or lend others
+pub data Call : Type 0 where
+  enable-bidirectional : (receives : Bool) → Call
+  command-stop : Call
+  command-throttles : (commands : List ℕ) (now lease : ℕ) → Call
+  command-special : (motor : ℕ) (sequence : CommandRun) → Call
+  request-telemetry : (motor : ℕ) → Call
+  cancel-telemetry-request : Call
+  take-telemetry-request-sent : Call
+  service-call : (now : ℕ) (taken present : List Bool) (masks samples : List ℕ) → Call
+  on-dma-interrupt : (motor : ℕ) (complete error turned back : Bool) → Call
+  take-replies : Call
+  is-bidirectional : Call
+  is-faulted : Call
+  stats : Call
+  requested-values : Call
+  command-pending : Call
+  reply-stats : Call
+  sending : (motor : ℕ) → Call
+  lend : (buffers : Buffers) → Call
+
+-- DshotReplyStats: each count by lane
+pub record ReplyStats : Type 0 where
+  pub valid : List ℕ
+  pub invalid : List ℕ
+  pub consecutiveInvalid : List ℕ
+
+pub data Answer : Type 0 where
+  done : Answer
+  refused : (number : ℕ) → Answer
+  motor-sent : Option ℕ → Answer
+  serviced : ServiceEvent → List Order → Answer
+  interrupted : InterruptEvent → List Order → Answer
+  replied : Option (List (Reply.Answer Reading)) → Answer
+  flag : Bool → Answer
+  counts : Stats → Answer
+  values : List ℕ → Answer
+  reply-counts : ReplyStats → Answer
+  slots : List ℕ → Answer
+
+-- the bank and the lent buffers
+pub record State : Type 0 where
+  pub bank : Bank
+  pub buffers : Buffers
+
+-- what a call answers, and what it leaves
+pub record Stepped : Type 0 where
+  pub answer : Answer
+  pub state : State
+
+-- ---- what the source does
+
+abbrev pub repliesOf : List LaneReply → List (Reply.Answer Reading)
+repliesOf lanes = map (λ (l : LaneReply). l .reply) lanes
+
+abbrev pub replyStatsOf : List LaneReply → ReplyStats
+replyStatsOf lanes = record {
+    valid = map (λ (l : LaneReply). l .valid) lanes;
+    invalid = map (λ (l : LaneReply). l .invalid) lanes;
+    consecutiveInvalid = map (λ (l : LaneReply). l .consecutiveInvalid) lanes }
+
+-- self.replies.take()
+abbrev pub repliesTaken : Core → Core
+repliesTaken c = withFrame (withRepliesHeld false (c .frame)) c
+
+-- the sequence that a lane is sending
+abbrev pub sequenceSent : Core → Buffers → ℕ → List ℕ
+sequenceSent c b motor = take 16 (drop (16 * motor) (pick (getD (c .frame .inSecond) motor false) (b .second) (b .first)))
+
+-- an answer, and all as it was
+abbrev pub told : State → Answer → Stepped
+told s a = record { answer = a; state = s }
+
+-- an answer, and another core
+abbrev pub changed : State → Answer → Core → Stepped
+changed s a c = record { answer = a; state = record { bank = withCore c (s .bank); buffers = s .buffers } }
+
+-- a core, or an error
+abbrev pub commanded : State → Reply.Answer Core → Stepped
+commanded s (given c) = changed s done c
+commanded s (Reply.refused k) = told s (refused k)
+
+abbrev pub servedStep : Served → Stepped
+servedStep r = record { answer = serviced (r .event) (r .orders); state = record { bank = r .bank; buffers = r .buffers } }
+
+abbrev pub interruptedStep : State → Interrupted → Stepped
+interruptedStep s r = changed s (interrupted (r .event) (r .orders)) (r .core)
+
+-- the source's call
+abbrev pub act : ℕ → State → Call → Stepped
+act n s (enable-bidirectional receives) = commanded s (enableBidirectional receives (s .bank .core))
+act n s command-stop = changed s done (commandStop n (s .bank .core))
+act n s (command-throttles commands now lease) = commanded s (commandThrottles n commands now lease (s .bank .core))
+act n s (command-special motor sequence) = commanded s (commandSpecial motor sequence (s .bank .core))
+act n s (request-telemetry motor) = commanded s (requestTelemetry motor (s .bank .core))
+act n s cancel-telemetry-request = changed s done (cancelTelemetryRequest (s .bank .core))
+act n s take-telemetry-request-sent = changed s (motor-sent (s .bank .core .telemetry .requestSent)) (clearRequestSent (s .bank .core))
+act n s (service-call now taken present masks samples) = servedStep (service n now taken present masks samples (s .bank) (s .buffers))
+act n s (on-dma-interrupt motor complete error turned back) = interruptedStep s (onDmaInterrupt n motor complete error turned back (s .bank .core))
+act n s take-replies = changed s (replied (if s .bank .core .frame .repliesHeld then some (repliesOf (s .bank .replies)) else none)) (repliesTaken (s .bank .core))
+act n s is-bidirectional = told s (flag (s .bank .core .frame .bidirectional))
+act n s is-faulted = told s (flag (s .bank .core .frame .faulted))
+act n s stats = told s (counts (s .bank .core .stats))
+act n s requested-values = told s (values (s .bank .core .demand .requestedValues))
+act n s command-pending = told s (flag (isSome (s .bank .core .commandSequence)))
+act n s reply-stats = told s (reply-counts (replyStatsOf (s .bank .replies)))
+act n s (sending motor) = told s (slots (sequenceSent (s .bank .core) (s .buffers) motor))
+act n s (lend buffers) = record { answer = done; state = record { bank = s .bank; buffers = buffers } }
+
+-- ---- what only the port refuses: a lent buffer of the wrong length, and then a lane that there is not. The source's types allow neither
+
+abbrev pub buffersFit : ℕ → Buffers → Bool
+buffersFit n b = if eqb (length (b .first)) (16 * n) then eqb (length (b .second)) (16 * n) else false
+
+abbrev pub lengthRefusal : Bool → ℕ → ℕ
+lengthRefusal fit otherwise = if fit then otherwise else wrongLength
+
+abbrev pub laneRefusal : ℕ → ℕ → ℕ
+laneRefusal n motor = if ltb motor n then 0 else noSuchMotor
+
+-- the number of the refusal, or 0
+unfoldable pub portRefusal : ℕ → State → Call → ℕ
+portRefusal n s (service-call now taken present masks samples) = lengthRefusal (if buffersFit n (s .buffers) then eqb (length samples) (160 * n) else false) 0
+portRefusal n s (sending motor) = lengthRefusal (buffersFit n (s .buffers)) (laneRefusal n motor)
+portRefusal n s (command-special motor sequence) = laneRefusal n motor
+portRefusal n s (request-telemetry motor) = laneRefusal n motor
+portRefusal n s (on-dma-interrupt motor complete error turned back) = laneRefusal n motor
+portRefusal n s (enable-bidirectional receives) = 0
+portRefusal n s command-stop = 0
+portRefusal n s (command-throttles commands now lease) = 0
+portRefusal n s cancel-telemetry-request = 0
+portRefusal n s take-telemetry-request-sent = 0
+portRefusal n s take-replies = 0
+portRefusal n s is-bidirectional = 0
+portRefusal n s is-faulted = 0
+portRefusal n s stats = 0
+portRefusal n s requested-values = 0
+portRefusal n s command-pending = 0
+portRefusal n s reply-stats = 0
+portRefusal n s (lend buffers) = 0
+
+-- ---- a call of the port
+
+abbrev pub refuseOr : State → ℕ → Stepped → Stepped
+refuseOr s number acted = if eqb number 0 then acted else told s (refused number)
+
+unfoldable pub step : ℕ → State → Call → Stepped
+step n s call = refuseOr s (portRefusal n s call) (act n s call)

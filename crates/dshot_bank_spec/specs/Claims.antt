@@ -1,0 +1,94 @@
+-- What is claimed of every list of calls, refused ones among them, for every count of lanes. Each list starts at a fresh bidirectional bank with
+-- two buffers of any length and contents; "alike", "renders", "damage" and "moved edge" are document 01's terms.
+-- Assumes nothing.
+use Prim.Native.Nat.{ℕ, _<_}
+use mathlib.Core.Path.{_≡_}
+use mathlib.Core.Bool.{Bool, true, false}
+use mathlib.Core.List.{List, map}
+use lib.ListN.{getD}
+use Rattle.dshot_reply_spec.specs.Answer.{Rejected}
+use Rattle.dshot_reply_spec.specs.Answer as Reply
+use Rattle.dshot_reply_spec.specs.Runs.{levels}
+use Rattle.dshot_reply_spec.specs.Gcr.{replyWord}
+use Rattle.dshot_reply_spec.specs.Value.{Reading, replyOf}
+use Rattle.dshot_reply_spec.specs.Render.{Renders, Damaged}
+use Rattle.dshot_reply_spec.specs.Move.{Moved}
+use Rattle.dshot_reply_spec.specs.Claims.{MovedEdge}
+use Rattle.dshot_spec.specs.Timing.{Timing}
+use Rattle.dshot_bank_spec.specs.Lanes.{if_then_else_}
+use Rattle.dshot_bank_spec.specs.State.{Buffers}
+use Rattle.dshot_bank_spec.specs.Commands.{noReplies}
+use Rattle.dshot_bank_spec.specs.Replies.{window, readWindow, countReply}
+use Rattle.dshot_bank_spec.specs.Calls.{Call, service-call, State, Stepped, step}
+use Rattle.dshot_bank_spec.specs.Lists.{trace, run, sourceRun, fresh, isRefused, isLook, accepted, acceptedOf, hide, AlikeAll}
+
+-- 1: two lists alike but in one lane's captures give, after each call, the same answer, bank and buffers, with that lane's reply and reply counts
+-- hidden
+abbrev pub Isolated : Type 0
+Isolated = (n lane : ℕ) (timing : Timing) (buffers : Buffers) (calls calls′ : List Call) → AlikeAll lane calls calls′
+    → map (hide lane) (trace n (fresh n timing buffers) calls) ≡ map (hide lane) (trace n (fresh n timing buffers) calls′)
+
+-- a call that only looks leaves all as it was, wherever it stands
+abbrev pub LooksKeep : Type 0
+LooksKeep = (n : ℕ) (s : State) (c : Call) → isLook c ≡ true → step n s c .state ≡ s
+
+-- 2: a refused call leaves bank and buffers as they were
+abbrev pub RefusalsKeep : Type 0
+RefusalsKeep = (n : ℕ) (s : State) (c : Call) → isRefused (step n s c .answer) ≡ true → step n s c .state ≡ s
+
+-- and without the refused calls a list has the rest of its trace
+abbrev pub RefusalsLeaveOut : Type 0
+RefusalsLeaveOut = (n : ℕ) (s : State) (calls : List Call) → trace n s (accepted n s calls) ≡ acceptedOf (trace n s calls)
+
+-- ---- what a service stores
+
+-- whether a service that finds a bank so reads its windows: no fault, no frame in flight, and replies that wait
+abbrev pub reads : State → Bool
+reads s =
+    if s .bank .core .frame .faulted then false else
+    if s .bank .core .frame .busy then false else
+    s .bank .core .frame .repliesWaiting
+
+module _ (n : ℕ) (timing : Timing) (buffers : Buffers) (calls : List Call) (now : ℕ) (taken present : List Bool) (masks samples : List ℕ) where
+  -- the state before the service that follows some calls, told by the source alone, run over those of the calls that are not refused
+  abbrev pub before : State
+  before = sourceRun n (fresh n timing buffers) (accepted n (fresh n timing buffers) calls)
+
+  -- the service itself
+  abbrev pub served : Stepped
+  served = step n (run n (fresh n timing buffers) calls) (service-call now taken present masks samples)
+
+  -- a lane's reply after it
+  abbrev pub reply : ℕ → Reply.Answer Reading
+  reply lane = getD (served .state .bank .replies) lane noReplies .reply
+
+  -- 3: where the service reads, each lane's reply is just what the reader makes of its window and mask, with the lane's counts, and all are there to
+  -- be taken; where it does not, each lane's reply and counts stay
+  pub record Stored : Type 0 where
+    pub lanes : (lane : ℕ) → lane < n
+        → getD (served .state .bank .replies) lane noReplies
+        ≡ (if reads before
+          then countReply (readWindow (getD present lane false) (window samples lane) (getD masks lane 0)) (getD (before .bank .replies) lane noReplies)
+          else getD (before .bank .replies) lane noReplies)
+    pub replies : reads before ≡ true → (lane : ℕ) → lane < n → reply lane ≡ readWindow (getD present lane false) (window samples lane) (getD masks lane 0)
+    pub held : reads before ≡ true → served .state .bank .core .frame .repliesHeld ≡ true
+
+  -- 4: what a service that reads stores of a lane whose capture is present: of a capture that renders a value's reply, that value (or 11); of one
+  -- damaged within one symbol, a refusal of 7 to 10; of one with one edge moved, what the reader's theorem says
+  pub record Decoded (lane : ℕ) : Type 0 where
+    pub rendered : (v : ℕ) → Renders 3 (levels (getD masks lane 0) (window samples lane)) (replyWord v) → reply lane ≡ replyOf v false
+    pub damaged : (v w′ p : ℕ) → Damaged (replyWord v) w′ p → Renders 3 (levels (getD masks lane 0) (window samples lane)) w′ → Rejected (reply lane)
+    pub moved : (v w′ i j : ℕ) → Moved (replyWord v) w′ i j → Renders 3 (levels (getD masks lane 0) (window samples lane)) w′ → MovedEdge v w′ false (reply lane)
+
+-- of each service of each list that is not refused
+abbrev pub Stores : Type 0
+Stores = (n : ℕ) (timing : Timing) (buffers : Buffers) (calls : List Call) (now : ℕ) (taken present : List Bool) (masks samples : List ℕ)
+    → isRefused (served n timing buffers calls now taken present masks samples .answer) ≡ false
+    → Stored n timing buffers calls now taken present masks samples
+
+abbrev pub Decodes : Type 0
+Decodes = (n : ℕ) (timing : Timing) (buffers : Buffers) (calls : List Call) (now : ℕ) (taken present : List Bool) (masks samples : List ℕ) (lane : ℕ)
+    → isRefused (served n timing buffers calls now taken present masks samples .answer) ≡ false
+    → reads (before n timing buffers calls now taken present masks samples) ≡ true
+    → lane < n → getD present lane false ≡ true
+    → Decoded n timing buffers calls now taken present masks samples lane

@@ -1,0 +1,118 @@
+-- The calls that make a bank and command it: each as the source has it, or the number of its refusal, which leaves the bank as it was.
+-- Stands for `from_lanes`, `enable_bidirectional`, `command_stop`, `command_throttles`, `command_special`, `command_pending`,
+-- `next_command_frame`, `request_telemetry`, `cancel_telemetry_request`, `take_telemetry_request_sent` and `fallback_release_due` of
+-- crates/ferrowasp-stm32-critical/src/dshot_bank.rs (Eirik2020/ferro-wasp, commit 9cb8aca1a6, Copyright (c) 2026 Kaldstrand, Apache-2.0),
+-- changed: rewritten as definitions, over n lanes.
+-- Assumes nothing.
+use Prim.Native.Nat.{ℕ, _+_, _-_, _%_, _^_}
+use mathlib.Core.Bool.{Bool, true, false, not}
+use mathlib.Core.List.{List}
+use mathlib.Core.Option.{Option, none, some}
+use lib.Dec.{ltb, leb}
+use lib.ListN.{replicate}
+use Rattle.dshot_reply_spec.specs.Answer.{Answer, given, refused, noReply}
+use Rattle.dshot_spec.specs.Timing.{Timing}
+use Rattle.dshot_spec.specs.Throttle.{throttleValues}
+use Rattle.dshot_spec.specs.Command.{CommandRun, Command, send, Next, nextValue}
+use Rattle.dshot_spec.specs.Command as Command
+use Rattle.dshot_bank_spec.specs.Lanes.{if_then_else_, any, isSome}
+use Rattle.dshot_bank_spec.specs.State.{Demand, MotorRun, Core, LaneReply, Bank}
+use Rattle.dshot_bank_spec.specs.With.{withDemand, withTelemetry, withCommandSequence, withFrame, withBidirectional}
+use Rattle.dshot_bank_spec.specs.Refusals.{throttleOutOfRange, faulted, motorsRunning, commandPending, telemetryPending, repliesUnsupported}
+
+-- a lane of which no window has been read
+abbrev pub noReplies : LaneReply
+noReplies = record { reply = refused noReply; valid = 0; invalid = 0; consecutiveInvalid = 0 }
+
+-- which lane's buffer is which is the port's: the first buffer is current for all, the second spare
+unfoldable pub fromLanes : ℕ → Timing → Bank
+fromLanes n timing = record {
+    core = record {
+        timing = timing;
+        demand = record { requestedValues = replicate n 0; leaseStartedMs = 0; leaseDurationMs = none };
+        telemetry = record { request = none; requestSent = none };
+        commandSequence = none;
+        frame = record { startedMs = 0; completionMask = 0; busy = false; faulted = false; bidirectional = false; receiving = false; repliesWaiting = false; repliesHeld = false; inSecond = replicate n false };
+        stats = record { framesStarted = 0; framesCompleted = 0; laneCompletions = replicate n 0; busySkips = 0; leaseExpiries = 0; frameTimeouts = 0; dmaFaults = 0; spuriousInterrupts = 0 } };
+    replies = replicate n noReplies }
+
+-- whether the lanes can receive replies is the hardware's answer
+unfoldable pub enableBidirectional : Bool → Core → Answer Core
+enableBidirectional receives c =
+    if not receives then refused repliesUnsupported else
+    given (withFrame (withBidirectional true (c .frame)) c)
+
+-- ---- demands
+
+-- whether a motor is asked to turn
+abbrev pub anyRequested : List ℕ → Bool
+anyRequested values = any (ltb 0) values
+
+unfoldable pub commandStop : ℕ → Core → Core
+commandStop n c = withDemand (record { requestedValues = replicate n 0; leaseStartedMs = c .demand .leaseStartedMs; leaseDurationMs = none }) c
+
+unfoldable pub commandThrottles : ℕ → List ℕ → ℕ → ℕ → Core → Answer Core
+commandThrottles n commands now lease c =
+    if c .frame .faulted then refused faulted else
+    if any (ltb 2000) commands then refused throttleOutOfRange else
+    if not (anyRequested commands) then given (commandStop n c) else
+    given (withDemand (record { requestedValues = throttleValues n commands; leaseStartedMs = now; leaseDurationMs = some lease }) c)
+
+-- ---- runs of commands
+
+-- a lease that has run out counts as long as no service has found it so
+abbrev pub isRunning : Demand → Bool
+isRunning d = if isSome (d .leaseDurationMs) then true else anyRequested (d .requestedValues)
+
+unfoldable pub commandSpecial : ℕ → CommandRun → Core → Answer Core
+commandSpecial motor sequence c =
+    if c .frame .faulted then refused faulted else
+    if isRunning (c .demand) then refused motorsRunning else
+    if isSome (c .commandSequence) then refused commandPending else
+    given (withCommandSequence (some (record { motor = motor; sequence = sequence })) c)
+
+-- a command for one motor
+pub record MotorCommand : Type 0 where
+  pub motor : ℕ
+  pub command : ℕ
+
+-- what next_command_frame returns, and the command_sequence that it leaves
+pub record NextFrame : Type 0 where
+  pub command : Option MotorCommand
+  pub left : Option MotorRun
+
+-- a spent run is cleared
+abbrev pub nextOf : ℕ → Command → CommandRun → NextFrame
+nextOf motor Command.none sequence = record { command = none; left = none }
+nextOf motor (send value) sequence = record { command = some (record { motor = motor; command = value }); left = some (record { motor = motor; sequence = sequence }) }
+
+abbrev pub nextOfRun : Option MotorRun → NextFrame
+nextOfRun none = record { command = none; left = none }
+nextOfRun (some run) = nextOf (run .motor) (nextValue 10 (run .sequence) .command) (nextValue 10 (run .sequence) .run)
+
+-- a throttle demand cancels a run here, where a frame is about to start, and nowhere else
+unfoldable pub nextCommandFrame : Core → NextFrame
+nextCommandFrame c =
+    if anyRequested (c .demand .requestedValues) then record { command = none; left = none } else
+    nextOfRun (c .commandSequence)
+
+-- ---- telemetry requests
+
+unfoldable pub requestTelemetry : ℕ → Core → Answer Core
+requestTelemetry motor c =
+    if c .frame .faulted then refused faulted else
+    if isSome (c .telemetry .request) then refused telemetryPending else
+    given (withTelemetry (record { request = some motor; requestSent = c .telemetry .requestSent }) c)
+
+unfoldable pub cancelTelemetryRequest : Core → Core
+cancelTelemetryRequest c = withTelemetry (record { request = none; requestSent = c .telemetry .requestSent }) c
+
+-- what take_telemetry_request_sent leaves, and what service does first
+unfoldable pub clearRequestSent : Core → Core
+clearRequestSent c = withTelemetry (record { request = c .telemetry .request; requestSent = none }) c
+
+-- ---- no call of a bank
+
+-- whether no frame set was released for two milliseconds, on a clock of 32 bits that may wrap
+unfoldable pub fallbackReleaseDue : ℕ → ℕ → Bool
+fallbackReleaseDue now lastRelease = leb 2 ((now + (2 ^ 32 - lastRelease)) % 2 ^ 32)

@@ -1,0 +1,14 @@
+pub mod Lanes
+pub mod State
+pub mod With
+pub mod Order
+pub mod Refusals
+pub mod Commands
+pub mod Replies
+pub mod Send
+pub mod Service
+pub mod Interrupt
+pub mod Calls
+pub mod Lists
+pub mod Claims
+pub mod SentClaim
