@@ -1,15 +1,15 @@
 -- Laws of lists over the lanes, for every count of lanes: what a loop over them keeps, what it ends with, and lists that differ at one lane.
 -- Assumes nothing.
 use mathlib.Core.Path.{_≡_, _∙_, refl, sym, ap, subst}
-use Prim.Native.Nat.{ℕ, zero, suc, _+_, _-_, _<_, _≤_}
-use mathlib.Core.List.{List, [], _∷_}
+use Prim.Native.Nat.{ℕ, zero, suc, _+_, _<_, _≤_}
+use mathlib.Core.List.{List, [], _∷_, _++_, map}
 use mathlib.Core.Bool.{Bool, true, false}
 use native.Mathlib.Omega.{arith}
 use native.Mathlib.Decide.{decLt}
 use native.Mathlib.Numerals.{add-one}
 use borrow.Author.Count.{below-none, below-more}
-use lib.ListN.{length, getD, set, length-set}
-use lib.Seq.{ext-getD, getD-set-same, getD-set-other}
+use lib.ListN.{length, getD, set, take, drop, length-set, length-drop}
+use lib.Seq.{ext-getD, getD-set-same, getD-set-other, take-append-le, drop-append-le}
 use Rattle.dshot_reply_spec.specs.Answer.{pick}
 use Rattle.dshot_spec.specs.Tabulate.{tabulate}
 use Rattle.dshot_spec.proofs.Tabulated.{length-tabulate, getD-tabulate}
@@ -24,6 +24,16 @@ on {A} {b} {z} x y e h = subst (λ (t : Bool). z ≡ pick t x y) (sym e) h
 -- what a test picks that does not
 pub off : {A : Type 0} {b : Bool} {z : A} (x y : A) → b ≡ false → z ≡ y → z ≡ pick b x y
 off {A} {b} {z} x y e h = subst (λ (t : Bool). z ≡ pick t x y) (sym e) h
+
+-- what holds of both holds of what a test picks
+pub either : {A : Type 0} (P : A → Type 0) (b : Bool) {x y : A} → P x → P y → P (pick b x y)
+either P true h k = h
+either P false h k = k
+
+-- a function of what a test picks
+pub under : {A B : Type 0} (g : A → B) (b : Bool) (x y : A) → pick b (g x) (g y) ≡ g (pick b x y)
+under g true x y = refl
+under g false x y = refl
 
 -- ---- each
 
@@ -59,10 +69,10 @@ module _ {A : Type 0} (p : A → Bool) (d : A) where
   any-at [] i h e = absurd (omega arith)
   any-at (x ∷ xs) zero h e = on _ _ e refl
   any-at (x ∷ xs) (suc i) h e = later (p x) (any-at xs i (omega arith) e)
-      where
-        later : (b : Bool) → true ≡ any p xs → true ≡ pick b true (any p xs)
-        later true r = refl
-        later false r = r
+    where
+      later : (b : Bool) → true ≡ any p xs → true ≡ pick b true (any p xs)
+      later true r = refl
+      later false r = r
 
   none-at : (v : List A) → ((k : ℕ) → k < length v → p (getD v k d) ≡ false) → false ≡ any p v
   unfolding any
@@ -99,16 +109,33 @@ module _ {A : Type 0} {n : ℕ} {p : A → Bool} {d : A} {v : List A} {i : ℕ} 
 pub set-tabulate : {A : Type 0} (n lane : ℕ) (z : A) (f g : ℕ → A) → ((k : ℕ) → (k ≡ lane → ⊥) → f k ≡ g k) → set (tabulate n f) lane z ≡ set (tabulate n g) lane z
 set-tabulate {A} n lane z f g h =
     ext-getD z (set (tabulate n f) lane z) (set (tabulate n g) lane z) (size f ∙ sym (size g)) (λ k l. at k (omega (arith, size f)) (decLt k lane) (decLt lane k))
-    where
-      size : (q : ℕ → A) → length (set (tabulate n q) lane z) ≡ n
-      size q = length-set (tabulate n q) lane z ∙ length-tabulate q n
-      other : (q : ℕ → A) (k : ℕ) → k < n → (k ≡ lane → ⊥) → getD (set (tabulate n q) lane z) k z ≡ q k
-      other q k l ne = getD-set-other (tabulate n q) lane k z z ne ∙ getD-tabulate q n k z l
-      here : (q : ℕ → A) (k : ℕ) → k < n → k ≡ lane → getD (set (tabulate n q) lane z) k z ≡ z
-      here q k l e = rw e (getD-set-same (tabulate n q) lane z z (omega (arith, length-tabulate q n)))
-      apart : (k : ℕ) → k < n → (k ≡ lane → ⊥) → getD (set (tabulate n f) lane z) k z ≡ getD (set (tabulate n g) lane z) k z
-      apart k l ne = other f k l ne ∙ h k ne ∙ sym (other g k l ne)
-      at : (k : ℕ) → k < n → Dec (k < lane) → Dec (lane < k) → getD (set (tabulate n f) lane z) k z ≡ getD (set (tabulate n g) lane z) k z
-      at k l (yes p) d = apart k l (λ e. omega arith)
-      at k l (no p) (yes q) = apart k l (λ e. omega arith)
-      at k l (no p) (no q) = let e : k ≡ lane = omega arith in here f k l e ∙ sym (here g k l e)
+  where
+    size : (q : ℕ → A) → length (set (tabulate n q) lane z) ≡ n
+    size q = length-set (tabulate n q) lane z ∙ length-tabulate q n
+
+    other : (q : ℕ → A) (k : ℕ) → k < n → (k ≡ lane → ⊥) → getD (set (tabulate n q) lane z) k z ≡ q k
+    other q k l ne = getD-set-other (tabulate n q) lane k z z ne ∙ getD-tabulate q n k z l
+
+    here : (q : ℕ → A) (k : ℕ) → k < n → k ≡ lane → getD (set (tabulate n q) lane z) k z ≡ z
+    here q k l e = rw e (getD-set-same (tabulate n q) lane z z (omega (arith, length-tabulate q n)))
+
+    apart : (k : ℕ) → k < n → (k ≡ lane → ⊥) → getD (set (tabulate n f) lane z) k z ≡ getD (set (tabulate n g) lane z) k z
+    apart k l ne = other f k l ne ∙ h k ne ∙ sym (other g k l ne)
+
+    at : (k : ℕ) → k < n → Dec (k < lane) → Dec (lane < k) → getD (set (tabulate n f) lane z) k z ≡ getD (set (tabulate n g) lane z) k z
+    at k l (yes p) d = apart k l (λ e. omega arith)
+    at k l (no p) (yes q) = apart k l (λ e. omega arith)
+    at k l (no p) (no q) = let e : k ≡ lane = omega arith in here f k l e ∙ sym (here g k l e)
+
+-- a function of every entry, where one was replaced
+pub map-set : {A B : Type 0} (f : A → B) (l : List A) (i : ℕ) (y : A) → map f (set l i y) ≡ set (map f l) i (f y)
+map-set f [] i y = refl
+map-set f (x ∷ xs) zero y = refl
+map-set {B = B} f (x ∷ xs) (suc i) y = ap (λ (r : List B). f x ∷ r) (map-set f xs i y)
+
+-- ---- a lane's part of a list
+
+-- the part of m entries from entry a on lies before the seam
+pub part-before : {A : Type 0} (a m : ℕ) (p q : List A) → a + m ≤ length p → take m (drop a (p ++ q)) ≡ take m (drop a p)
+part-before {A} a m p q h =
+    ap (λ (l : List A). take m l) (drop-append-le a p q (omega arith)) ∙ take-append-le m (drop a p) q (omega (arith, length-drop a p))

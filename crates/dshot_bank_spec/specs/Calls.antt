@@ -77,9 +77,10 @@ repliesOf lanes = map (λ (l : LaneReply). l .reply) lanes
 
 abbrev pub replyStatsOf : List LaneReply → ReplyStats
 replyStatsOf lanes = record {
-    valid = map (λ (l : LaneReply). l .valid) lanes;
-    invalid = map (λ (l : LaneReply). l .invalid) lanes;
-    consecutiveInvalid = map (λ (l : LaneReply). l .consecutiveInvalid) lanes }
+  valid = map (λ (l : LaneReply). l .valid) lanes;
+  invalid = map (λ (l : LaneReply). l .invalid) lanes;
+  consecutiveInvalid = map (λ (l : LaneReply). l .consecutiveInvalid) lanes;
+}
 
 -- self.replies.take()
 abbrev pub repliesTaken : Core → Core

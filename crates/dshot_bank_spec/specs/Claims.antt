@@ -68,8 +68,8 @@ module _ (n : ℕ) (timing : Timing) (buffers : Buffers) (calls : List Call) (no
     pub lanes : (lane : ℕ) → lane < n
         → getD (served .state .bank .replies) lane noReplies
         ≡ (if reads before
-          then countReply (readWindow (getD present lane false) (window samples lane) (getD masks lane 0)) (getD (before .bank .replies) lane noReplies)
-          else getD (before .bank .replies) lane noReplies)
+        then countReply (readWindow (getD present lane false) (window samples lane) (getD masks lane 0)) (getD (before .bank .replies) lane noReplies)
+        else getD (before .bank .replies) lane noReplies)
     pub replies : reads before ≡ true → (lane : ℕ) → lane < n → reply lane ≡ readWindow (getD present lane false) (window samples lane) (getD masks lane 0)
     pub held : reads before ≡ true → served .state .bank .core .frame .repliesHeld ≡ true
 

@@ -27,14 +27,16 @@ noReplies = record { reply = refused noReply; valid = 0; invalid = 0; consecutiv
 -- which lane's buffer is which is the port's: the first buffer is current for all, the second spare
 unfoldable pub fromLanes : ℕ → Timing → Bank
 fromLanes n timing = record {
-    core = record {
-        timing = timing;
-        demand = record { requestedValues = replicate n 0; leaseStartedMs = 0; leaseDurationMs = none };
-        telemetry = record { request = none; requestSent = none };
-        commandSequence = none;
-        frame = record { startedMs = 0; completionMask = 0; busy = false; faulted = false; bidirectional = false; receiving = false; repliesWaiting = false; repliesHeld = false; inSecond = replicate n false };
-        stats = record { framesStarted = 0; framesCompleted = 0; laneCompletions = replicate n 0; busySkips = 0; leaseExpiries = 0; frameTimeouts = 0; dmaFaults = 0; spuriousInterrupts = 0 } };
-    replies = replicate n noReplies }
+  core = record {
+    timing = timing;
+    demand = record { requestedValues = replicate n 0; leaseStartedMs = 0; leaseDurationMs = none };
+    telemetry = record { request = none; requestSent = none };
+    commandSequence = none;
+    frame = record { startedMs = 0; completionMask = 0; busy = false; faulted = false; bidirectional = false; receiving = false; repliesWaiting = false; repliesHeld = false; inSecond = replicate n false };
+    stats = record { framesStarted = 0; framesCompleted = 0; laneCompletions = replicate n 0; busySkips = 0; leaseExpiries = 0; frameTimeouts = 0; dmaFaults = 0; spuriousInterrupts = 0 };
+  };
+  replies = replicate n noReplies;
+}
 
 -- whether the lanes can receive replies is the hardware's answer
 unfoldable pub enableBidirectional : Bool → Core → Answer Core

@@ -72,9 +72,9 @@ module _ (n motor : ℕ) (complete error turned back : Bool) where
   afterLane c =
       if not (eqb (c .frame .completionMask) (allComplete n)) then interrupted completed [] c else
       if c .frame .receiving then
-        (if back then interrupted completed (end-receive ∷ []) (windowClosed c) else latched false faulted (end-receive ∷ []) c) else
+      (if back then interrupted completed (end-receive ∷ []) (windowClosed c) else latched false faulted (end-receive ∷ []) c) else
       if c .frame .bidirectional then
-        (if turned then interrupted completed (begin-receive ∷ []) (windowOpened c) else latched false faulted (begin-receive ∷ []) c) else
+      (if turned then interrupted completed (begin-receive ∷ []) (windowOpened c) else latched false faulted (begin-receive ∷ []) c) else
       interrupted completed (stop-frame ∷ []) (frameDone c)
 
   unfoldable pub onDmaInterrupt : Core → Interrupted

@@ -8,7 +8,6 @@ use Rattle.dshot_reply_spec.specs.Answer.{pick}
 
 -- `pick`, written as the Rust writes it
 infix 1 if_then_else_
-
 abbrev pub if_then_else_ : {A : Type 0} → Bool → A → A → A
 if_then_else_ b x y = pick b x y
 

@@ -102,9 +102,10 @@ pub record Sent : Type 0 where
 -- a lane refuses its buffer: those before it have turned
 unfoldable pub exchangeRefused : ℕ → ℕ → Core → Sent
 exchangeRefused n k c = record {
-    started = false;
-    orders = refusedOrders n k;
-    core = latchFault n false (withFrame (withInSecond (turnMarks n k (c .frame .inSecond)) (c .frame)) c) }
+  started = false;
+  orders = refusedOrders n k;
+  core = latchFault n false (withFrame (withInSecond (turnMarks n k (c .frame .inSecond)) (c .frame)) c);
+}
 
 -- a request that the frame carries is sent
 abbrev pub carry : Option ℕ → Telemetry → Telemetry

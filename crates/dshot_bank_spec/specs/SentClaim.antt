@@ -28,7 +28,8 @@ module _ (n : ℕ) (s after : State) (now : ℕ) (firstDuties : List ℕ) (lane 
         ≡ given (record {
           value = getD (nextSet n (sendingCore n now (s .bank .core)) .values) lane 0 % 2048;
           telemetry = asks (nextSet n (sendingCore n now (s .bank .core)) .telemetryLane) lane;
-          kind = kindSent (sendingCore n now (s .bank .core)) })
+          kind = kindSent (sendingCore n now (s .bank .core));
+        })
 
 -- of each service that orders a frame to start, where the timing's high times differ
 abbrev pub SentReadsBack : Type 0

@@ -1,0 +1,216 @@
+-- One lane's captures show in that lane's reply and reply counts alone, over every list of calls and for every count of lanes.
+-- Assumes nothing.
+use mathlib.Core.Path.{_≡_, _∙_, refl, sym, ap}
+use Prim.Native.Nat.{ℕ, _+_, _*_, _<_, _≤_}
+use mathlib.Core.List.{List, [], _∷_, map}
+use mathlib.Core.Bool.{Bool, true, false}
+use mathlib.Core.Option.{none, some}
+use native.Mathlib.Omega.{arith}
+use native.Mathlib.Decide.{decLt}
+use lib.Dec.{eqb}
+use lib.ListN.{getD, set, length, drop, length-take, length-drop}
+use lib.Seq.{getD-set-other, getD-take, getD-drop, ext-getD}
+use Rattle.dshot_reply_spec.specs.Answer.{pick, given}
+use Rattle.dshot_reply_spec.specs.Answer as Reply
+use Rattle.dshot_bank_spec.specs.State.{Core, LaneReply, Buffers}
+use Rattle.dshot_bank_spec.specs.Commands.{noReplies, enableBidirectional, commandThrottles, commandSpecial, requestTelemetry, clearRequestSent}
+use Rattle.dshot_bank_spec.specs.Replies.{window, readWindow, countReply, decodeReplies}
+use Rattle.dshot_bank_spec.specs.Service.{Served, Skipped, skipped, unsent, serviceBusy, demandExpired, expireLease, repliesRead, readReplies, serviceCore}
+use Rattle.dshot_bank_spec.specs.Service as Service
+use Rattle.dshot_bank_spec.specs.Calls.{Call, enable-bidirectional, command-stop, command-throttles, command-special, request-telemetry, cancel-telemetry-request, take-telemetry-request-sent, service-call, on-dma-interrupt, take-replies, is-bidirectional, is-faulted, stats, requested-values, command-pending, reply-stats, sending, lend, done, refused, replied, reply-counts, State, Stepped, told, changed, commanded, servedStep, repliesOf, repliesTaken, act, buffersFit, lengthRefusal, portRefusal, refuseOr, step}
+use Rattle.dshot_bank_spec.specs.Lists.{trace, fresh, hide, hideState, hideReplies, hideTaken, Alike, same, captured, AlikeAll, none-left, one-more}
+use Rattle.dshot_bank_spec.specs.Claims.{Isolated}
+use Rattle.dshot_bank_spec.proofs.LaneLaws.{set-tabulate, map-set}
+use Rattle.dshot_bank_spec.proofs.Service.{serviceSend, serviceOpen}
+
+-- ---- the windows
+
+-- another lane's window is the same where all samples outside this lane's are
+windows : (lane : ℕ) (s s′ : List ℕ) → length s ≡ length s′ → ((i : ℕ) → i < 160 * lane → getD s i 0 ≡ getD s′ i 0)
+    → ((i : ℕ) → 160 * lane + 160 ≤ i → getD s i 0 ≡ getD s′ i 0) → (k : ℕ) → (k ≡ lane → ⊥) → window s k ≡ window s′ k
+windows lane s s′ el lo hi k ne =
+    ext-getD 0 (window s k) (window s′ k) (simp (length-take, length-drop) (rw el))
+    (λ i h. let b : i < 160 = omega (arith, length-take 160 (drop (160 * k) s)) in entry s i b ∙ sides (decLt k lane) i b ∙ sym (entry s′ i b))
+  where
+    entry : (l : List ℕ) (i : ℕ) → i < 160 → getD (window l k) i 0 ≡ getD l (160 * k + i) 0
+    entry l i b = getD-take 160 (drop (160 * k) l) i 0 b ∙ getD-drop (160 * k) l i 0
+
+    sides : Dec (k < lane) → (i : ℕ) → i < 160 → getD s (160 * k + i) 0 ≡ getD s′ (160 * k + i) 0
+    sides (yes p) i b = lo (160 * k + i) (omega arith)
+    sides (no q) i b = let above : lane < k = omega arith in hi (160 * k + i) (omega arith)
+
+-- ---- a service
+
+abbrev hideServed : ℕ → Served → Served
+hideServed lane z = record {
+  event = z .event;
+  orders = z .orders;
+  bank = record { core = z .bank .core; replies = hideReplies lane (z .bank .replies) };
+  buffers = z .buffers;
+}
+
+-- a test picks alike where both sides are alike
+picked : {A B : Type 0} (f : A → B) (b : Bool) (x x′ y y′ : A) → f x ≡ f x′ → f y ≡ f y′ → f (pick b x y) ≡ f (pick b x′ y′)
+picked f true x x′ y y′ p q = p
+picked f false x x′ y y′ p q = q
+
+-- another lane's old reply is the same
+others : (lane : ℕ) (r r′ : List LaneReply) → hideReplies lane r ≡ hideReplies lane r′
+    → (k : ℕ) → (k ≡ lane → ⊥) → getD r k noReplies ≡ getD r′ k noReplies
+others lane r r′ er k ne =
+    sym (getD-set-other r lane k noReplies noReplies ne)
+    ∙ ap (λ (l : List LaneReply). getD l k noReplies) er
+    ∙ getD-set-other r′ lane k noReplies noReplies ne
+
+-- what a service makes of the lane's captures m and s, or m′ and s′, and of the replies before it, r or r′
+module _ (n lane now : ℕ) (taken p : List Bool) (m m′ s s′ : List ℕ) (r r′ : List LaneReply) (b : Buffers)
+    (er : hideReplies lane r ≡ hideReplies lane r′)
+    (ew : (k : ℕ) → (k ≡ lane → ⊥) → window s k ≡ window s′ k)
+    (em : (k : ℕ) → (k ≡ lane → ⊥) → getD m k 0 ≡ getD m′ k 0) where
+  abbrev Alikes : (List ℕ → List ℕ → List LaneReply → Served) → Type 0
+  Alikes f = hideServed lane (f m s r) ≡ hideServed lane (f m′ s′ r′)
+
+  read-alike : (waiting : Bool) → hideReplies lane (readReplies n waiting p m s r) ≡ hideReplies lane (readReplies n waiting p m′ s′ r′)
+  unfolding readReplies decodeReplies
+  read-alike true = set-tabulate n lane noReplies _ _
+      (λ k ne.
+      let o = others lane r r′ er k ne in
+      let w = ew k ne in
+      let t = em k ne in
+      λ j. countReply (readWindow (getD p k false) (w j) (t j)) (o j))
+  read-alike false = er
+
+  unsent-alike : (k : Skipped) → Alikes (λ x y z. unsent n now taken p x y z b k)
+  unsent-alike k = λ j. unsent n now taken p m s (er j) b k
+
+  send-alike : (expired : Bool) (c : Core) → Alikes (λ x y z. serviceSend n now taken p x y z b expired c)
+  send-alike expired c =
+      let h = read-alike (c .frame .repliesWaiting) in
+      λ j. Service.sending n now taken p m s r b expired (repliesRead c) (h j)
+
+  open-alike : (expired : Bool) (c : Core) → Alikes (λ x y z. serviceOpen n now taken p x y z b expired c)
+  open-alike expired c =
+      let k = serviceBusy n now expired c in
+      picked (hideServed lane) (c .frame .busy) (unsent n now taken p m s r b k) (unsent n now taken p m′ s′ r′ b k)
+      (serviceSend n now taken p m s r b expired c) (serviceSend n now taken p m′ s′ r′ b expired c) (unsent-alike k) (send-alike expired c)
+
+  service-alike : (c : Core) → Alikes (λ x y z. serviceCore n now taken p x y z b c)
+  unfolding serviceCore
+  service-alike c =
+      let c₀ = clearRequestSent c in
+      let k = skipped Service.faulted [] c₀ in
+      let expired = demandExpired now (c₀ .demand) in
+      let c₁ = expireLease n expired c₀ in
+      picked (hideServed lane) (c₀ .frame .faulted) (unsent n now taken p m s r b k) (unsent n now taken p m′ s′ r′ b k)
+      (serviceOpen n now taken p m s r b expired c₁) (serviceOpen n now taken p m′ s′ r′ b expired c₁) (unsent-alike k) (open-alike expired c₁)
+
+-- ---- one call, from two states that are alike
+
+module _ (n lane : ℕ) (s s′ : State) (e : hideState lane s ≡ hideState lane s′) where
+  old : hideReplies lane (s .bank .replies) ≡ hideReplies lane (s′ .bank .replies)
+  old = ap (λ (x : State). x .bank .replies) e
+
+  -- two calls that the port refuses alike, and of which the source makes what is alike
+  abbrev AlikeActs : Call → Call → Type 0
+  AlikeActs c c′ = (portRefusal n s c ≡ portRefusal n s′ c′) × (hide lane (act n s c) ≡ hide lane (act n s′ c′))
+
+  alike-step : (c c′ : Call) → AlikeActs c c′ → hide lane (step n s c) ≡ hide lane (step n s′ c′)
+  unfolding step
+  alike-step c c′ h =
+      let k = portRefusal n s c in
+      picked (hide lane) (eqb k 0) (act n s c) (act n s′ c′) (told s (refused k)) (told s′ (refused k)) (h .1) (λ j. told (e j) (refused k))
+      ∙ ap (λ (x : ℕ). hide lane (refuseOr s′ x (act n s′ c′))) (h .0)
+
+  answered-alike : (a : Reply.Answer Core) → hide lane (commanded s a) ≡ hide lane (commanded s′ a)
+  answered-alike (given c) = λ j. changed (e j) done c
+  answered-alike (Reply.refused k) = λ j. told (e j) (refused k)
+
+  -- a core is made of the core alone
+  commanded-alike : (f : Core → Reply.Answer Core) → hide lane (commanded s (f (s .bank .core))) ≡ hide lane (commanded s′ (f (s′ .bank .core)))
+  commanded-alike f = answered-alike (f (s .bank .core)) ∙ ap (λ (x : State). hide lane (commanded s′ (f (x .bank .core)))) e
+
+  serve-alike : (now : ℕ) (taken p : List Bool) (m m′ x x′ : List ℕ) → length x ≡ length x′
+      → ((k : ℕ) → (k ≡ lane → ⊥) → window x k ≡ window x′ k)
+      → ((k : ℕ) → (k ≡ lane → ⊥) → getD m k 0 ≡ getD m′ k 0)
+      → AlikeActs (service-call now taken p m x) (service-call now taken p m′ x′)
+  unfolding portRefusal
+  serve-alike now taken p m m′ x x′ el ew em =
+      let r = s .bank .replies in
+      let r′ = s′ .bank .replies in (
+        λ j. lengthRefusal (pick (buffersFit n (e j .buffers)) (eqb (el j) (160 * n)) false) 0,
+        ap servedStep (service-alike n lane now taken p m m′ x x′ r r′ (s .buffers) old ew em (s .bank .core))
+            ∙ ap (λ (z : State). hide lane (servedStep (serviceCore n now taken p m′ x′ r′ (z .buffers) (z .bank .core)))) e,
+      )
+
+  -- a list of the lanes' fields, with the lane hidden
+  field-alike : {A : Type 0} (f : LaneReply → A)
+      → set (map f (s .bank .replies)) lane (f noReplies) ≡ set (map f (s′ .bank .replies)) lane (f noReplies)
+  field-alike f = sym (map-set f (s .bank .replies) lane noReplies) ∙ ap (map f) old ∙ map-set f (s′ .bank .replies) lane noReplies
+
+  take-alike : hide lane (act n s take-replies) ≡ hide lane (act n s′ take-replies)
+  take-alike =
+      let held = s .bank .core .frame .repliesHeld in
+      let l = some (repliesOf (s .bank .replies)) in
+      let l′ = some (repliesOf (s′ .bank .replies)) in
+      let taken = picked (hideTaken lane) held l l′ none none (λ j. some (field-alike (λ (r : LaneReply). r .reply) j)) refl in
+      _∙_ {A = Stepped}
+      (λ j. changed (e j) (replied (taken j)) (repliesTaken (s .bank .core)))
+      (ap (λ (x : State). hide lane (changed s′ (replied (pick (x .bank .core .frame .repliesHeld) l′ none)) (repliesTaken (x .bank .core)))) e)
+
+  counts-alike : hide lane (act n s reply-stats) ≡ hide lane (act n s′ reply-stats)
+  counts-alike =
+      let valid = field-alike (λ (r : LaneReply). r .valid) in
+      let invalid = field-alike (λ (r : LaneReply). r .invalid) in
+      let consecutive = field-alike (λ (r : LaneReply). r .consecutiveInvalid) in
+      λ j. told (e j) (reply-counts (record { valid = valid j; invalid = invalid j; consecutiveInvalid = consecutive j }))
+
+  -- with the lane hidden before the call
+  act-hidden : (c : Call) → act n (hideState lane s) c ≡ act n (hideState lane s′) c
+  act-hidden c = ap (λ (x : State). act n x c) e
+
+  -- the same call
+  same-alike : (c : Call) → AlikeActs c c
+  unfolding portRefusal
+  same-alike (enable-bidirectional receives) = (refl, commanded-alike (enableBidirectional receives))
+  same-alike command-stop = (refl, act-hidden command-stop)
+  same-alike (command-throttles v now lease) = (refl, commanded-alike (commandThrottles n v now lease))
+  same-alike (command-special motor run) = (refl, commanded-alike (commandSpecial motor run))
+  same-alike (request-telemetry motor) = (refl, commanded-alike (requestTelemetry motor))
+  same-alike cancel-telemetry-request = (refl, act-hidden cancel-telemetry-request)
+  same-alike take-telemetry-request-sent = (refl, act-hidden take-telemetry-request-sent)
+  same-alike (service-call now taken p m x) = serve-alike now taken p m m x x refl (λ k ne. refl) (λ k ne. refl)
+  same-alike (on-dma-interrupt motor a b c d) = (refl, act-hidden (on-dma-interrupt motor a b c d))
+  same-alike take-replies = (refl, take-alike)
+  same-alike is-bidirectional = (refl, act-hidden is-bidirectional)
+  same-alike is-faulted = (refl, act-hidden is-faulted)
+  same-alike stats = (refl, act-hidden stats)
+  same-alike requested-values = (refl, act-hidden requested-values)
+  same-alike command-pending = (refl, act-hidden command-pending)
+  same-alike reply-stats = (refl, counts-alike)
+  same-alike (sending motor) = (ap (λ (x : State). portRefusal n x (sending motor)) e, act-hidden (sending motor))
+  same-alike (lend b) = (refl, act-hidden (lend b))
+
+-- ---- lists of calls
+
+step-alike : (n lane : ℕ) {c c′ : Call} → Alike lane c c′ → (s s′ : State) → hideState lane s ≡ hideState lane s′
+    → hide lane (step n s c) ≡ hide lane (step n s′ c′)
+step-alike n lane (same c) s s′ e = alike-step n lane s s′ e c c (same-alike n lane s s′ e c)
+step-alike n lane (captured now taken present {m = m} {m′ = m′} {s = x} {s′ = x′} el lo hi em) s s′ e =
+    alike-step n lane s s′ e (service-call now taken present m x) (service-call now taken present m′ x′)
+    (serve-alike n lane s s′ e now taken present m m′ x x′ el (windows lane x x′ el lo hi) em)
+
+trace-alike : (n lane : ℕ) {cs cs′ : List Call} → AlikeAll lane cs cs′ → (s s′ : State) → hideState lane s ≡ hideState lane s′
+    → map (hide lane) (trace n s cs) ≡ map (hide lane) (trace n s′ cs′)
+trace-alike n lane none-left s s′ e = refl
+trace-alike n lane (one-more {c} {c′} a rest) s s′ e =
+    let h = step-alike n lane a s s′ e in
+    let t = trace-alike n lane rest (step n s c .state) (step n s′ c′ .state) (ap (λ (r : Stepped). r .state) h) in
+    λ j. h j ∷ t j
+
+-- from any start
+pub isolated-from : (n lane : ℕ) (start : State) (calls calls′ : List Call) → AlikeAll lane calls calls′
+    → map (hide lane) (trace n start calls) ≡ map (hide lane) (trace n start calls′)
+isolated-from n lane start calls calls′ h = trace-alike n lane h start start refl
+
+pub isolated : Isolated
+isolated n lane timing buffers = isolated-from n lane (fresh n timing buffers)
