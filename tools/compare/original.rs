@@ -27,6 +27,10 @@ fn reading(reply: DshotReply) -> Answer {
     Answer::of_reading(kind, number)
 }
 
+pub fn reply(read: Result<DshotReply, DshotReplyError>) -> Answer {
+    read.map_or_else(refused, reading)
+}
+
 pub fn reply_transitions_for(value: u32) -> u32 {
     dshot_reply::reply_transitions_for(value as u16)
 }
@@ -40,9 +44,13 @@ pub fn decode_gcr(word: u32) -> Answer {
 }
 
 pub fn reply_from_value(value: u32, edt: u32) -> Answer {
-    DshotReply::from_value(value as u16, edt != 0).map_or_else(refused, reading)
+    reply(DshotReply::from_value(value as u16, edt != 0))
 }
 
 pub fn decode_sampled_reply(samples: &[u16], mask: u32, edt: u32) -> Answer {
-    dshot_reply::decode_sampled_reply(samples, mask as u16, edt != 0).map_or_else(refused, reading)
+    reply(dshot_reply::decode_sampled_reply(
+        samples,
+        mask as u16,
+        edt != 0,
+    ))
 }

@@ -132,7 +132,7 @@ pub type MotorValues = [u16; 4];
 
 pub type MotorPackets = [DshotPacket; 4];
 
-fn packets_of_kind(
+pub fn packets_of_kind(
     kind: ChecksumKind,
     values: MotorValues,
     telemetry_lane: TelemetryLane,

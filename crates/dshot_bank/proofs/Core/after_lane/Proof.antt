@@ -1,0 +1,123 @@
+-- `dshot_bank::Core::after_lane` meets its contract: each return is a case of the tests.
+-- Assumes nothing.
+use mathlib.Core.Path.{refl, ap}
+use mathlib.Core.Bool.{not}
+use mathlib.Core.List.{[]}
+use borrow.Author.Tests.{eq-eqb, ne-eqb}
+use Rattle.dshot_bank_spec.proofs.LaneLaws.{on, off}
+use Rattle.dshot_bank_spec.specs.Order.{stop-frame, pause-and-clear, begin-receive, end-receive}
+use Rattle.dshot_bank_spec.specs.Interrupt.{afterLane}
+use Rattle.dshot_bank.proofs.InterruptLaws.{quiet-none, quiet-latched, quiet-cons, settled, by-handled, by-latched}
+use borrow.Author.Needs.{needs}
+use Rattle.dshot_bank.proofs.Core.after_lane.Statement.{statement}
+use Rattle.dshot_bank.proofs.Core.after_lane.Tie as tie
+
+handled-requires : tie.Need-handled-requires
+handled-requires c κs = search needs
+
+returns : tie.Need-returns
+unfolding afterLane
+returns c = λ motor begins.
+    settled (on _ _ (ap not (ne-eqb _ 15 (c .before .if1 .taken))) refl)
+    (by-handled (c .handled .ensures) begins refl (quiet-cons (pause-and-clear motor) [] refl refl quiet-none))
+
+push-requires : tie.Need-push-requires
+push-requires c κs = search needs
+
+window-closed-requires : tie.Need-window-closed-requires
+window-closed-requires c κs = search needs
+
+handled-requires-2 : tie.Need-handled-requires-2
+handled-requires-2 c κs = search needs
+
+returns-2 : tie.Need-returns-2
+unfolding afterLane
+returns-2 c = λ motor begins.
+    let d = c .before .before in
+    let e = d .before .before in
+    settled (off _ _ (ap not (eq-eqb _ 15 (e .before .if1 .left))) (on _ _ (e .if2 .taken) (on _ _ (d .if3 .taken) refl)))
+    (by-handled (c .handled2 .ensures) (d .before .push .ensures .1 _ end-receive refl begins) (c .before .window-closed .ensures)
+    (quiet-cons (pause-and-clear motor) _ refl refl (quiet-cons end-receive [] refl refl quiet-none)))
+
+latched-requires : tie.Need-latched-requires
+latched-requires c κs = search needs
+
+returns-3 : tie.Need-returns-3
+unfolding afterLane
+returns-3 c = λ motor begins.
+    let d = c .before in
+    let e = d .before .before in
+    settled (off _ _ (ap not (eq-eqb _ 15 (e .before .if1 .left))) (on _ _ (e .if2 .taken) (off _ _ (d .if3 .left) refl)))
+    (by-latched _ (c .latched .ensures) (d .before .push .ensures .1 _ end-receive refl begins)
+    (quiet-cons (pause-and-clear motor) _ refl refl (quiet-cons end-receive _ refl refl quiet-latched)))
+
+push-requires-2 : tie.Need-push-requires-2
+push-requires-2 c κs = search needs
+
+window-opened-requires : tie.Need-window-opened-requires
+window-opened-requires c κs = search needs
+
+handled-requires-3 : tie.Need-handled-requires-3
+handled-requires-3 c κs = search needs
+
+returns-4 : tie.Need-returns-4
+unfolding afterLane
+returns-4 c = λ motor begins.
+    let d = c .before .before in
+    let e = d .before .before in
+    settled (off _ _ (ap not (eq-eqb _ 15 (e .before .before .if1 .left))) (off _ _ (e .before .if2 .left) (on _ _ (e .if4 .taken) (on _ _ (d .if5 .taken) refl))))
+    (by-handled (c .handled3 .ensures) (d .before .push2 .ensures .1 _ begin-receive refl begins) (c .before .window-opened .ensures)
+    (quiet-cons (pause-and-clear motor) _ refl refl (quiet-cons begin-receive [] refl refl quiet-none)))
+
+latched-requires-2 : tie.Need-latched-requires-2
+latched-requires-2 c κs = search needs
+
+returns-5 : tie.Need-returns-5
+unfolding afterLane
+returns-5 c = λ motor begins.
+    let d = c .before in
+    let e = d .before .before in
+    settled (off _ _ (ap not (eq-eqb _ 15 (e .before .before .if1 .left))) (off _ _ (e .before .if2 .left) (on _ _ (e .if4 .taken) (off _ _ (d .if5 .left) refl))))
+    (by-latched _ (c .latched2 .ensures) (d .before .push2 .ensures .1 _ begin-receive refl begins)
+    (quiet-cons (pause-and-clear motor) _ refl refl (quiet-cons begin-receive _ refl refl quiet-latched)))
+
+push-requires-3 : tie.Need-push-requires-3
+push-requires-3 c κs = search needs
+
+frame-done-requires : tie.Need-frame-done-requires
+frame-done-requires c κs = search needs
+
+handled-requires-4 : tie.Need-handled-requires-4
+handled-requires-4 c κs = search needs
+
+returns-6 : tie.Need-returns-6
+unfolding afterLane
+returns-6 c = λ motor begins.
+    let d = c .before .before in
+    let e = d .before in
+    settled (off _ _ (ap not (eq-eqb _ 15 (e .before .before .if1 .left))) (off _ _ (e .before .if2 .left) (off _ _ (e .if4 .left) refl)))
+    (by-handled (c .handled4 .ensures) (d .push3 .ensures .1 _ stop-frame refl begins) (c .before .frame-done .ensures)
+    (quiet-cons (pause-and-clear motor) _ refl refl (quiet-cons stop-frame [] refl refl quiet-none)))
+
+pub after-lane-spec : {M : Type 1} → statement M
+after-lane-spec =
+    tie.close
+    (tie.spec
+    handled-requires
+    returns
+    push-requires
+    window-closed-requires
+    handled-requires-2
+    returns-2
+    latched-requires
+    returns-3
+    push-requires-2
+    window-opened-requires
+    handled-requires-3
+    returns-4
+    latched-requires-2
+    returns-5
+    push-requires-3
+    frame-done-requires
+    handled-requires-4
+    returns-6)

@@ -1,0 +1,5 @@
+pub mod StepLaws
+pub mod SendLaws
+pub mod OrderLaws
+pub mod InterruptLaws
+pub mod ReplyLaws

@@ -1,0 +1,94 @@
+-- Laws of an array of the code and what its entries stand for: one entry stored, one read, all read in turn; of a lane's part of a buffer; and of
+-- what is answered where the sequence that a lane is sending is asked for.
+-- Assumes nothing.
+use mathlib.Core.Path.{_≡_, _∙_, refl, sym, ap}
+use Prim.Native.Nat.{ℕ, zero, suc, _+_, _-_, _*_, _<_}
+use mathlib.Core.Bool.{Bool, true, false}
+use mathlib.Core.List.{List, [], _∷_, map}
+use native.Mathlib.Omega.{arith}
+use borrow.Author.Tests.{eqb-true}
+use lib.Dec.{eqb, ltb}
+use lib.ListN.{length, getD, set, take, drop, length-map, List·getD-map}
+use lib.Seq.{ext-getD}
+use Rattle.dshot_reply_spec.specs.Answer.{pick}
+use Rattle.dshot_spec.specs.Tabulate.{tabulate}
+use Rattle.dshot_spec.proofs.Tabulated.{length-tabulate, getD-tabulate}
+use Rattle.dshot_bank_spec.specs.Lanes.{if_then_else_}
+use Rattle.dshot_bank_spec.specs.Refusals.{noSuchMotor}
+use Rattle.dshot_bank_spec.specs.Calls.{State, Stepped, sending, act, buffersFit, lengthRefusal, portRefusal, refuseOr, step}
+use Rattle.dshot_bank.specs.Serves.{lengthsFit}
+use Rattle.dshot_bank.specs.Views.{twoFit}
+use Rattle.dshot_bank.specs.declared.LaneReply.{LaneReply}
+use Rattle.dshot_bank.specs.declared.replies.TakenReply.{TakenReply}
+
+-- ---- arrays
+
+-- which entry stands where there is none makes no difference where there is one
+pub getD-any : {A : Type 0} (l : List A) (i : ℕ) (d e : A) → i < length l → getD l i d ≡ getD l i e
+getD-any [] i d e h = absurd (omega arith)
+getD-any (x ∷ l) zero d e h = refl
+getD-any (x ∷ l) (suc i) d e h = getD-any l i d e (omega arith)
+
+module _ {A B : Type 0} (f : A → B) where
+  -- to store an entry is to store what it stands for
+  pub map-set : (l : List A) (i : ℕ) (x : A) → map f (set l i x) ≡ set (map f l) i (f x)
+  map-set [] i x = refl
+  map-set (y ∷ l) zero x = refl
+  map-set (y ∷ l) (suc i) x = ap (λ (ys : List B). f y ∷ ys) (map-set l i x)
+
+  -- what an entry stands for
+  pub map-at : (l : List A) (i : ℕ) (d : A) (e : B) → i < length l → f (getD l i d) ≡ getD (map f l) i e
+  map-at l i d e h = sym (List·getD-map f l i d) ∙ getD-any (map f l) i (f d) e (omega (arith, length-map l f))
+
+  -- what each entry stands for, in turn
+  pub tabulate-map : {n : ℕ} (l : List A) (d : A) → length l ≡ n → tabulate n (λ (i : ℕ). f (getD l i d)) ≡ map f l
+  tabulate-map {n} l d h =
+      let g : ℕ → B = λ (i : ℕ). f (getD l i d) in
+      ext-getD (f d) (tabulate n g) (map f l) (length-tabulate g n ∙ sym h ∙ sym (length-map l f))
+      (λ k b. getD-tabulate g n k (f d) (omega (arith, length-tabulate g n)) ∙ sym (List·getD-map f l k d))
+
+-- two steps are one
+pub map-map : {A B C : Type 0} (g : B → C) (f : A → B) (l : List A) → map g (map f l) ≡ map (λ (x : A). g (f x)) l
+map-map g f [] = refl
+map-map {C = C} g f (x ∷ l) = ap (λ (ys : List C). g (f x) ∷ ys) (map-map g f l)
+
+-- what each entry stands for in two steps, in turn
+pub tabulate-maps : {A B C : Type 0} {n : ℕ} (g : B → C) (f : A → B) (l : List A) (d : A) → length l ≡ n → tabulate n (λ (i : ℕ). g (f (getD l i d))) ≡ map g (map f l)
+tabulate-maps {A} g f l d h = tabulate-map (λ (x : A). g (f x)) l d h ∙ sym (map-map g f l)
+
+-- a lane's reply as it is handed out
+abbrev pub takenOf : LaneReply → TakenReply
+takenOf l = record { reply = l .reply }
+
+-- a lane's part of a buffer that holds w entries for each
+pub part-is : (w i : ℕ) (xs : List ℕ) → take (w * i + w - w * i) (drop (w * i) xs) ≡ take w (drop (w * i) xs)
+part-is w i xs = let k : w * i + w - w * i ≡ w = omega arith in rw k
+
+-- ---- the sequence that a lane is sending
+
+-- two tests that hold
+fit-both : (t u : Bool) → pick t u false ≡ true → (t ≡ true) × (u ≡ true)
+fit-both true u e = (refl, e)
+fit-both false u e = let z : _≡_ {A = ℕ} 0 1 = cc in absurd (omega arith)
+
+-- the lengths of two buffers that fit
+pub two-fit : (first second : ℕ) → twoFit first second ≡ true → (first ≡ 64) × (second ≡ 64)
+unfolding twoFit
+two-fit first second e = let p = fit-both (eqb first 64) (eqb second 64) e in (eqb-true first 64 (p .0), eqb-true second 64 (p .1))
+
+-- and of the captures with them
+pub three-fit : (first second captures : ℕ) → lengthsFit first second captures ≡ true → (first ≡ 64) × (second ≡ 64) × (captures ≡ 640)
+unfolding lengthsFit
+three-fit first second captures e =
+    let p = fit-both (twoFit first second) (eqb captures 640) e in
+    let q = two-fit first second (p .0) in
+    (q .0, q .1, eqb-true captures 640 (p .1))
+
+module _ (n : ℕ) (s : State) (motor : ℕ) where
+  -- what is answered, by whether the buffers fit and whether there is such a lane
+  abbrev pub answered : Bool → Bool → Stepped
+  answered fit there = refuseOr s (lengthRefusal fit (if there then 0 else noSuchMotor)) (act n s (sending motor))
+
+  pub sending-is : {fit there : Bool} → buffersFit n (s .buffers) ≡ fit → ltb motor n ≡ there → answered fit there ≡ step n s (sending motor)
+  unfolding step portRefusal
+  sending-is e h = λ j. answered (sym e j) (sym h j)

@@ -1,0 +1,41 @@
+-- What the interrupt of the code returns, in the terms of the definitions.
+-- Assumes nothing.
+use Prim.Native.Nat.{ℕ}
+use mathlib.Core.Path.{_≡_}
+use mathlib.Core.List.{List, [], _∷_}
+use lib.ListN.{replicate}
+use Rattle.dshot_bank_spec.specs.Refusals.{noSuchMotor}
+use Rattle.dshot_bank_spec.specs.Order.{Order, pause-and-clear}
+use Rattle.dshot_bank_spec.specs.Interrupt.{InterruptEvent, completed, faulted, spurious}
+use Rattle.dshot_bank_spec.specs.Interrupt as Spec
+use Rattle.dshot_bank_spec.specs.Calls.{Answer, refused, interrupted}
+use Rattle.dshot_bank.specs.declared.orders.Orders.{Orders}
+use Rattle.dshot_bank.specs.declared.interrupt.DshotInterruptEvent.{DshotInterruptEvent}
+use Rattle.dshot_bank.specs.declared.interrupt.DshotInterruptEvent.the-variants.{Completed, Faulted, Spurious}
+use Rattle.dshot_bank.specs.declared.interrupt.Interrupt.{Interrupt}
+use Rattle.dshot_bank.specs.declared.interrupt.Interrupt.the-variants.{Event, NoSuchMotor}
+use Rattle.dshot_bank.specs.declared.interrupt.Handled.{Handled}
+use Rattle.dshot_bank.specs.States.{coreOf}
+use Rattle.dshot_bank.specs.Orders.{held, dutiesIn, Whole}
+
+abbrev pub interruptEventOf : DshotInterruptEvent → InterruptEvent
+interruptEventOf Completed = completed
+interruptEventOf Faulted = faulted
+interruptEventOf Spurious = spurious
+
+-- an answer with its orders, or document 01's number
+abbrev pub interruptAnswer : Interrupt → List Order → Answer
+interruptAnswer (Event e) orders = interrupted (interruptEventOf e) orders
+interruptAnswer NoSuchMotor orders = refused noSuchMotor
+
+-- the order with which every interrupt begins
+abbrev pub Begins : Orders → ℕ → Type 0
+Begins o motor = o ≡ held (pause-and-clear motor ∷ [])
+
+-- the same event, orders and core
+pub record Interrupts (r : Handled) (s : Spec.Interrupted) : Type 0 where
+  pub event : interruptEventOf (r .event) ≡ s .event
+  pub orders : r .orders ≡ held (s .orders)
+  pub duties : replicate 4 0 ≡ dutiesIn (s .orders)
+  pub whole : Whole (s .orders)
+  pub core : coreOf (r .core) ≡ s .core

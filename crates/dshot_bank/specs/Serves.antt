@@ -1,0 +1,55 @@
+-- What the service of the code returns, in the terms of the definitions.
+-- Assumes nothing.
+use Prim.Native.Nat.{ℕ, _*_}
+use mathlib.Core.Path.{_≡_}
+use mathlib.Core.Bool.{Bool, false}
+use mathlib.Core.List.{List, []}
+use lib.Dec.{eqb}
+use Rattle.dshot_reply_spec.specs.Answer.{wrongLength}
+use Rattle.dshot_bank_spec.specs.Lanes.{if_then_else_}
+use Rattle.dshot_bank_spec.specs.State.{Buffers}
+use Rattle.dshot_bank_spec.specs.Order.{Order}
+use Rattle.dshot_bank_spec.specs.Service.{ServiceEvent, frame-started, busy, lease-expired, faulted}
+use Rattle.dshot_bank_spec.specs.Service as Spec
+use Rattle.dshot_bank_spec.specs.Calls.{Answer, refused, serviced}
+use Rattle.dshot_bank.specs.declared.service.DshotServiceEvent.{DshotServiceEvent}
+use Rattle.dshot_bank.specs.declared.service.DshotServiceEvent.the-variants.{FrameStarted, Busy, LeaseExpired, Faulted}
+use Rattle.dshot_bank.specs.declared.service.Service.{Service}
+use Rattle.dshot_bank.specs.declared.service.Service.the-variants.{Event, WrongLength}
+use Rattle.dshot_bank.specs.declared.service.Served.{Served}
+use Rattle.dshot_bank.specs.declared.service.Skipped.{Skipped}
+use Rattle.dshot_bank.specs.States.{coreOf, bankOf}
+use Rattle.dshot_bank.specs.Views.{twoFit}
+use Rattle.dshot_bank.specs.Orders.{held, dutiesIn, Whole}
+
+abbrev pub serviceEventOf : DshotServiceEvent → ServiceEvent
+serviceEventOf FrameStarted = frame-started
+serviceEventOf Busy = busy
+serviceEventOf LeaseExpired = lease-expired
+serviceEventOf Faulted = faulted
+
+-- an answer with its orders, or document 01's number
+abbrev pub serviceAnswer : Service → List Order → Answer
+serviceAnswer (Event e) orders = serviced (serviceEventOf e) orders
+serviceAnswer WrongLength orders = refused wrongLength
+
+-- the lengths of the two sequence buffers and of the captures
+unfoldable pub lengthsFit : ℕ → ℕ → ℕ → Bool
+lengthsFit first second captures = if twoFit first second then eqb captures (160 * 4) else false
+
+-- the same event, orders and core
+pub record Skips (r : Skipped) (s : Spec.Skipped) : Type 0 where
+  pub event : serviceEventOf (r .event) ≡ s .event
+  pub orders : r .orders ≡ held (s .orders)
+  pub duties : dutiesIn [] ≡ dutiesIn (s .orders)
+  pub whole : Whole (s .orders)
+  pub core : coreOf (r .core) ≡ s .core
+
+-- the same event, orders with their first duties, bank and buffers
+pub record Serves (r : Served) (b : Buffers) (s : Spec.Served) : Type 0 where
+  pub answer : serviceAnswer (r .answer) (s .orders) ≡ serviced (s .event) (s .orders)
+  pub orders : r .orders ≡ held (s .orders)
+  pub duties : r .«first_duties» ≡ dutiesIn (s .orders)
+  pub whole : Whole (s .orders)
+  pub bank : bankOf (r .bank) ≡ s .bank
+  pub buffers : b ≡ s .buffers

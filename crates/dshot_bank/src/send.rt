@@ -1,0 +1,435 @@
+// Ported from crates/ferrowasp-stm32-critical/src/dshot_bank.rs of Eirik2020/ferro-wasp at commit 9cb8aca1a6, Copyright (c) 2026 Kaldstrand,
+// under the Apache License, Version 2.0 (see NOTICE). Changed: ported to Rattle; two lent buffers and a mark per lane stand for the exchanged
+// buffers, so that no spare can be missing.
+//
+// Latching a fault, and sending a frame set.
+
+use crate::CommandRun;
+use crate::Core;
+use crate::DshotMotor;
+use crate::DshotStats;
+use crate::LANES;
+use crate::MotorChoice;
+use crate::Requests;
+use crate::commands::any_requested;
+use crate::orders::Orders;
+use crate::replies::LaneFlags;
+use crate::replies::wrapping_add;
+use dshot::COMPARE_DMA_SLOTS;
+use dshot::ChecksumKind;
+use dshot::CommandValue;
+use dshot::DshotCommandSequence;
+use dshot::DshotPacket;
+use dshot::DshotTiming;
+use dshot::MotorPackets;
+use dshot::MotorValues;
+use dshot::Sequenced;
+use dshot::TelemetryLane;
+use dshot::encode_compare_sequence;
+use dshot::packets_of_kind;
+ghost use mathlib.Core.Path.{_≡_};
+ghost use mathlib.Core.Bool.{not};
+ghost use Prim.Native.Nat.{_*_, _<_};
+ghost use lib.ListN.{length, set, replicate};
+ghost use Rattle.dshot_reply_spec.specs.Answer.{pick};
+ghost use Rattle.dshot_spec.specs.Sequence.{sequenceOf};
+ghost use Rattle.dshot.specs.Answers.{kindOf, laneOf, words, timingOf, commandOf, runOf};
+ghost use Rattle.dshot_bank_spec.specs.Lanes.{position};
+ghost use Rattle.dshot_bank_spec.specs.State.{Buffers};
+ghost use Rattle.dshot_bank_spec.specs.With.{withFrame, withInSecond};
+ghost use Rattle.dshot_bank_spec.specs.Commands.{nextOf, nextOfRun, nextCommandFrame};
+ghost use Rattle.dshot_bank_spec.specs.Replies.{wrappingAdd};
+ghost use Rattle.dshot_bank_spec.specs.Send.{countFault, latchFault, frameSet, kindSent, firstDuties, writeSpare, encodeLanes, turnMarks, carry, exchangeRefused, frameStarted, exchangeBuffers, sendRequested, sentBuffers, asLane};
+ghost use Rattle.dshot_bank.specs.States.{motorOf, choiceOf, telemetryOf, commandSequenceOf, frameOf, statsOf, coreOf};
+ghost use Rattle.dshot_bank.specs.Sends.{nextFrameOf, motorCommandOf, frameSetOf, Sends};
+
+// The next special-command frame.
+pub(crate) enum FrameCommand {
+    None,
+    Some(DshotMotor, u16),
+}
+
+// The next special-command frame, and the run that is left.
+pub(crate) struct NextFrame {
+    pub command: FrameCommand,
+    pub left: CommandRun,
+}
+
+// What is sent to each lane, and the telemetry request that is carried.
+pub(crate) struct FrameSet {
+    pub values: MotorValues,
+    pub telemetry_lane: TelemetryLane,
+    pub telemetry_request: MotorChoice,
+}
+
+// Whether a frame set started, with the orders and the first duties.
+pub(crate) struct Sent {
+    pub started: bool,
+    pub orders: Orders,
+    pub first_duties: MotorValues,
+    pub core: Core,
+}
+
+// ---- a fault
+
+pub(crate) fn add_if(counted: bool, count: u32) -> u32
+    ensures { λ r. ⌜ r ≡ pick counted (wrappingAdd count) count ⌝ }
+{
+    if counted { wrapping_add(count) } else { count }
+}
+
+impl DshotStats {
+    fn count_fault(mut self, faulted: bool, spurious: bool) -> Self
+        ensures { λ r. ⌜ statsOf r ≡ countFault faulted spurious (statsOf self) ⌝ }
+    {
+        self.dma_faults = add_if(!faulted, self.dma_faults);
+        self.spurious_interrupts = add_if(spurious, self.spurious_interrupts);
+        self
+    }
+}
+
+impl Core {
+    // The orders of a fault are `Orders::latched`.
+    pub(crate) fn latch_fault(mut self, spurious: bool) -> Self
+        ensures { λ r. ⌜ coreOf r ≡ latchFault 4 spurious (coreOf self) ⌝ }
+    {
+        let stats = self.stats.count_fault(self.frame.faulted, spurious);
+        self.stats = stats;
+        let mut frame = self.frame;
+        frame.faulted = true;
+        frame.busy = false;
+        frame.receiving = false;
+        frame.replies_waiting = false;
+        self.frame = frame;
+        let requests = Requests {
+            telemetry_request: MotorChoice::None,
+            telemetry_request_sent: MotorChoice::None,
+            command_sequence: CommandRun::None,
+        };
+        self.requests = requests;
+        self.stopped()
+    }
+}
+
+// ---- what is sent
+
+// The next frame of a run.
+fn next_of_run(run: CommandRun) -> NextFrame
+    ensures { λ r. ⌜ nextFrameOf r ≡ nextOfRun (commandSequenceOf run) ⌝ }
+{
+    match run {
+        CommandRun::None => NextFrame {
+            command: FrameCommand::None,
+            left: CommandRun::None,
+        },
+        CommandRun::Some {
+            motor,
+            first,
+            second,
+            index,
+            repeats_left,
+        } => {
+            let sequence = DshotCommandSequence {
+                commands: [first, second],
+                index,
+                repeats_left,
+            };
+            let next = sequence.next_value();
+            let value = next.value;
+            let left = next.sequence;
+            next_of(motor, value, left)
+        }
+    }
+}
+
+// A command, and the run after it; a spent run is cleared.
+fn next_of(motor: DshotMotor, value: CommandValue, sequence: DshotCommandSequence) -> NextFrame
+    ensures { λ r. ⌜ nextFrameOf r ≡ nextOf (motorOf motor) (commandOf value) (runOf sequence) ⌝ }
+{
+    match value {
+        CommandValue::Value(command) => {
+            let commands = sequence.commands;
+            let left = CommandRun::Some {
+                motor,
+                first: commands[0],
+                second: commands[1],
+                index: sequence.index,
+                repeats_left: sequence.repeats_left,
+            };
+            NextFrame {
+                command: FrameCommand::Some(motor, command),
+                left,
+            }
+        }
+        CommandValue::None => NextFrame {
+            command: FrameCommand::None,
+            left: CommandRun::None,
+        },
+    }
+}
+
+// The values with one lane's command.
+fn one_lane(motor: DshotMotor, command: u16) -> MotorValues
+    ensures { λ r. ⌜ r ≡ set (replicate 4 0) (motorOf motor) command ⌝ }
+{
+    let mut values = [0; LANES];
+    values[motor.index()] = command;
+    values
+}
+
+fn as_lane(motor: MotorChoice) -> TelemetryLane
+    ensures { λ r. ⌜ laneOf r ≡ asLane (choiceOf motor) ⌝ }
+{
+    match motor {
+        MotorChoice::Some(motor) => TelemetryLane::Lane(motor.index()),
+        MotorChoice::None => TelemetryLane::None,
+    }
+}
+
+impl Core {
+    // The next special-command frame; none when there is none or a throttle demand has cancelled it.
+    fn next_command_frame(self) -> NextFrame
+        ensures { λ r. ⌜ nextFrameOf r ≡ nextCommandFrame (coreOf self) ⌝ }
+    {
+        let values = self.demand.requested_values;
+        if any_requested(values) {
+            return NextFrame {
+                command: FrameCommand::None,
+                left: CommandRun::None,
+            };
+        }
+        let requests = self.requests;
+        let run = requests.command_sequence;
+        next_of_run(run)
+    }
+
+    // A special command needs the telemetry bit on its own lane, so a pending telemetry request waits for the next ordinary frame.
+    fn frame_set(self, command: FrameCommand) -> FrameSet
+        ensures { λ r. ⌜ frameSetOf r ≡ frameSet 4 (coreOf self) (motorCommandOf command) ⌝ }
+    {
+        match command {
+            FrameCommand::Some(motor, command) => FrameSet {
+                values: one_lane(motor, command),
+                telemetry_lane: TelemetryLane::Lane(motor.index()),
+                telemetry_request: MotorChoice::None,
+            },
+            FrameCommand::None => {
+                let values = self.demand.requested_values;
+                let requests = self.requests;
+                let request = requests.telemetry_request;
+                FrameSet {
+                    values,
+                    telemetry_lane: as_lane(request),
+                    telemetry_request: request,
+                }
+            }
+        }
+    }
+
+    fn kind(self) -> ChecksumKind
+        ensures { λ r. ⌜ kindOf r ≡ kindSent (coreOf self) ⌝ }
+    {
+        if self.frame.bidirectional {
+            ChecksumKind::Inverted
+        } else {
+            ChecksumKind::Plain
+        }
+    }
+}
+
+// ---- sequences
+
+// A lane's part of a spare. The part has the right length, so that the sequence is written.
+fn encode(packet: DshotPacket, timing: DshotTiming, part: &mut [u16]) -> u16
+    requires { ⌜ length (now part) ≡ 16 ⌝ }
+    ensures { λ r. ⌜ r ≡ sequenceOf (timingOf timing) (packet .0) .first ⌝ }
+    ensures { λ r. ⌜ now (part .exit) ≡ sequenceOf (timingOf timing) (packet .0) .slots ⌝ }
+{
+    match encode_compare_sequence(packet, timing, part) {
+        Sequenced::First(duty) => duty,
+        Sequenced::WrongLength => 0,
+    }
+}
+
+// A lane's sequence into its spare: the first buffer, where the second holds what it is sending.
+fn write_spare(
+    first: &mut [u16],
+    second: &mut [u16],
+    in_second: bool,
+    lane: usize,
+    packet: DshotPacket,
+    timing: DshotTiming,
+) -> u16
+    requires { ⌜ (length (now first) ≡ 16 * 4) × (length (now second) ≡ 16 * 4) × (lane < 4) ⌝ }
+    ensures { λ r. ⌜ r ≡ sequenceOf (timingOf timing) (packet .0) .first ⌝ }
+    ensures { λ r. ⌜ _≡_ {A = Buffers} (record { first = now (first .exit); second = now (second .exit) }) (writeSpare «in_second» lane (sequenceOf (timingOf timing) (packet .0) .slots) (record { first = now (first .entry); second = now (second .entry) })) ⌝ }
+{
+    let from = COMPARE_DMA_SLOTS * lane;
+    let to = from + COMPARE_DMA_SLOTS;
+    if in_second {
+        encode(packet, timing, &mut first[from..to])
+    } else {
+        encode(packet, timing, &mut second[from..to])
+    }
+}
+
+// Every lane's sequence into its spare; the first duties.
+fn encode_lanes(
+    first: &mut [u16],
+    second: &mut [u16],
+    in_second: LaneFlags,
+    packets: MotorPackets,
+    timing: DshotTiming,
+) -> MotorValues
+    requires { ⌜ (length (now first) ≡ 16 * 4) × (length (now second) ≡ 16 * 4) ⌝ }
+    ensures { λ r. ⌜ r ≡ firstDuties 4 (timingOf timing) (words packets) ⌝ }
+    ensures { λ r. ⌜ _≡_ {A = Buffers} (record { first = now (first .exit); second = now (second .exit) }) (encodeLanes 4 (timingOf timing) «in_second» (words packets) (record { first = now (first .entry); second = now (second .entry) })) ⌝ }
+{
+    let mut duties = [0; LANES];
+    for lane in 0..LANES {
+        let packet = packets[lane];
+        duties[lane] = write_spare(first, second, in_second[lane], lane, packet, timing);
+    }
+    duties
+}
+
+// ---- the exchange
+
+// How many lanes took their buffer before the first that did not.
+fn lanes_taken(taken: LaneFlags) -> usize
+    ensures { λ r. ⌜ r ≡ position not taken ⌝ }
+{
+    for lane in 0..LANES {
+        if !taken[lane] {
+            return lane;
+        }
+    }
+    LANES
+}
+
+fn turned_if(turned: bool, mark: bool) -> bool
+    ensures { λ r. ⌜ r ≡ pick turned (not mark) mark ⌝ }
+{
+    if turned { !mark } else { mark }
+}
+
+// The marks of the first lanes turned.
+fn turn_marks(turned: usize, in_second: LaneFlags) -> LaneFlags
+    ensures { λ r. ⌜ r ≡ turnMarks 4 turned «in_second» ⌝ }
+{
+    let mut marks = in_second;
+    for lane in 0..LANES {
+        marks[lane] = turned_if(lane < turned, in_second[lane]);
+    }
+    marks
+}
+
+impl Requests {
+    // A request that the frame carries is sent.
+    fn carrying(self, request: MotorChoice) -> Self
+        ensures { λ r. ⌜ telemetryOf r ≡ carry (choiceOf request) (telemetryOf self) ⌝ }
+        ensures { λ r. ⌜ r .«command_sequence» ≡ self .«command_sequence» ⌝ }
+    {
+        if request.is_some() {
+            let run = self.command_sequence;
+            return Requests {
+                telemetry_request: MotorChoice::None,
+                telemetry_request_sent: request,
+                command_sequence: run,
+            };
+        }
+        self
+    }
+}
+
+impl Core {
+    fn marks_turned(mut self, turned: usize) -> Self
+        ensures { λ r. ⌜ coreOf r ≡ withFrame (withInSecond (turnMarks 4 turned (self .frame .«in_second»)) (frameOf (self .frame))) (coreOf self) ⌝ }
+    {
+        let mut frame = self.frame;
+        let marks = frame.in_second;
+        let turned_marks = turn_marks(turned, marks);
+        frame.in_second = turned_marks;
+        self.frame = frame;
+        self
+    }
+
+    // A lane refuses its buffer: those before it have turned.
+    fn exchange_refused(self, lane: usize) -> Sent
+        requires { ⌜ lane < 4 ⌝ }
+        ensures { λ r. ⌜ Sends r (exchangeRefused 4 lane (coreOf self)) ⌝ }
+    {
+        let core = self.marks_turned(lane).latch_fault(false);
+        Sent {
+            started: false,
+            orders: Orders::refused(lane),
+            first_duties: [0; LANES],
+            core,
+        }
+    }
+
+    fn frame_started(self, now_ms: u64, request: MotorChoice) -> Self
+        ensures { λ r. ⌜ coreOf r ≡ frameStarted 4 «now_ms» (choiceOf request) (coreOf self) ⌝ }
+    {
+        let mut core = self.marks_turned(LANES);
+        let mut frame = core.frame;
+        frame.frame_started_ms = now_ms;
+        frame.completion_mask = 0;
+        frame.busy = true;
+        core.frame = frame;
+        let mut stats = core.stats;
+        stats.frames_started = wrapping_add(stats.frames_started);
+        core.stats = stats;
+        let requests = core.requests.carrying(request);
+        core.requests = requests;
+        core
+    }
+
+    fn exchange_buffers(
+        self,
+        now_ms: u64,
+        taken: LaneFlags,
+        request: MotorChoice,
+        duties: MotorValues,
+    ) -> Sent
+        ensures { λ r. ⌜ Sends r (exchangeBuffers 4 «now_ms» taken (choiceOf request) duties (coreOf self)) ⌝ }
+    {
+        let lane = lanes_taken(taken);
+        if lane < LANES {
+            return self.exchange_refused(lane);
+        }
+        Sent {
+            started: true,
+            orders: Orders::started(),
+            first_duties: duties,
+            core: self.frame_started(now_ms, request),
+        }
+    }
+
+    pub(crate) fn send_requested(
+        self,
+        now_ms: u64,
+        taken: LaneFlags,
+        first: &mut [u16],
+        second: &mut [u16],
+    ) -> Sent
+        requires { ⌜ (length (now first) ≡ 16 * 4) × (length (now second) ≡ 16 * 4) ⌝ }
+        ensures { λ r. ⌜ Sends r (sendRequested 4 «now_ms» taken (coreOf self)) ⌝ }
+        ensures { λ r. ⌜ _≡_ {A = Buffers} (record { first = now (first .exit); second = now (second .exit) }) (sentBuffers 4 (coreOf self) (record { first = now (first .entry); second = now (second .entry) })) ⌝ }
+    {
+        let next = self.next_command_frame();
+        let command = next.command;
+        let set = self.frame_set(command);
+        let values = set.values;
+        let lane = set.telemetry_lane;
+        let packets = packets_of_kind(self.kind(), values, lane);
+        let marks = self.frame.in_second;
+        let duties = encode_lanes(first, second, marks, packets, self.timing);
+        let left = next.left;
+        let mut core = self;
+        let requests = core.requests.running(left);
+        core.requests = requests;
+        let request = set.telemetry_request;
+        core.exchange_buffers(now_ms, taken, request, duties)
+    }
+}

@@ -1,0 +1,31 @@
+//! A random list, which its number determines.
+
+use crate::coverage::Coverage;
+use crate::maker::Maker;
+use crate::record::Record;
+use crate::step::Step;
+
+/// A list's text has fewer bytes than this, so no call is added above the second number: a line is
+/// shorter than the difference.
+pub const LONGEST: usize = 60_000;
+const FULL: usize = LONGEST - 10_000;
+
+pub fn list(number: u64, seen: &mut Coverage) -> Record {
+    let mut maker = Maker::new(number);
+    let mut record = Record::new();
+    for _ in 0..maker.length() {
+        if record.bytes > FULL {
+            break;
+        }
+        let before = record.bank.fields();
+        let call = maker.next(&before);
+        let outcome = record.call(&call);
+        seen.count(&Step {
+            call: &call,
+            before: &before,
+            outcome: &outcome,
+        });
+    }
+    assert!(record.bytes < LONGEST);
+    record
+}

@@ -1,0 +1,41 @@
+//! A list as it grows: its lines, the source's line for each, and the source's bank behind them.
+
+use crate::bank::Bank;
+use crate::call::Call;
+use crate::outcome::Outcome;
+use crate::{read_call, write_call};
+
+pub struct Record {
+    pub bank: Bank,
+    pub calls: Vec<String>,
+    pub right: Vec<String>,
+    /// How long the text of the calls is.
+    pub bytes: usize,
+}
+
+impl Record {
+    /// There is no bank before the first call of a list, which makes one.
+    pub fn new() -> Self {
+        Self {
+            bank: Bank::new([0; 4]),
+            calls: Vec::new(),
+            right: Vec::new(),
+            bytes: 0,
+        }
+    }
+
+    pub fn call(&mut self, call: &Call) -> Outcome {
+        let line = write_call::line(call);
+        // The call that is made is the one that the line says.
+        assert_eq!(read_call::call(&line).as_ref(), Some(call));
+        let outcome = self.bank.step(call);
+        self.right.push(outcome.line(write_call::code(call)));
+        self.bytes += line.len() + 1;
+        self.calls.push(line);
+        outcome
+    }
+
+    pub fn text(&self) -> String {
+        self.calls.join("\n") + "\n"
+    }
+}

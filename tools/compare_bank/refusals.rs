@@ -1,0 +1,55 @@
+//! The source's errors as document 01's numbers.
+
+use dshot_bank::DshotTelemetryRequestError;
+use dshot_bank::{DshotCommandError, DshotInitError, DshotSpecialCommandError};
+
+/// A motor lane above 3, and a lent buffer of the wrong length.
+pub const MOTOR: u64 = 12;
+pub const LENGTH: u64 = 13;
+
+pub trait Refusal {
+    fn number(self) -> u64;
+}
+
+/// 0 where the call was done.
+pub fn number(result: Result<(), impl Refusal>) -> u64 {
+    result.map_or_else(Refusal::number, |()| 0)
+}
+
+impl Refusal for DshotCommandError {
+    fn number(self) -> u64 {
+        match self {
+            Self::ThrottleOutOfRange => 6,
+            Self::Faulted => 18,
+        }
+    }
+}
+
+impl Refusal for DshotSpecialCommandError {
+    fn number(self) -> u64 {
+        match self {
+            Self::Faulted => 18,
+            Self::MotorsRunning => 19,
+            Self::CommandPending => 20,
+        }
+    }
+}
+
+impl Refusal for DshotTelemetryRequestError {
+    fn number(self) -> u64 {
+        match self {
+            Self::Faulted => 18,
+            Self::Busy => 21,
+        }
+    }
+}
+
+impl Refusal for DshotInitError {
+    fn number(self) -> u64 {
+        match self {
+            Self::RepliesUnsupported => 22,
+            // Of lanes and timers that hardware is made of, which no call here does.
+            _ => unreachable!("a bank is not refused so"),
+        }
+    }
+}

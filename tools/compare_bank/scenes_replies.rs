@@ -1,0 +1,97 @@
+//! Scenes of replies and counts.
+
+use crate::call::{Call, Service, Status};
+use crate::damage::damaged;
+use crate::original::{decode_gcr, reply_transitions_for};
+use crate::outcome::replies;
+use crate::script::{Script, EXPIRED, FAULTED, SPURIOUS, STARTED};
+use crate::windows::{Window, WINDOW};
+
+pub fn scenes(script: &mut Script) {
+    refusals(script);
+    kept_over_a_fault(script);
+    full_counts(script);
+}
+
+/// The refusals that the lanes' replies are counted under.
+fn expect_refusals(script: &mut Script, now: u64, windows: [Window; 4], right: [u64; 4]) {
+    let outcome = script.served(Service::at(now).with_windows(&windows), STARTED);
+    let stored = replies(outcome.fields.replies);
+    assert_eq!([1, 4, 7, 10].map(|place| stored[place]), right);
+}
+
+/// Each refusal of a reply; replies that nobody takes make room for the next; and an edge that is
+/// one bit late, so that another value is read, after a bad reply.
+fn refusals(script: &mut Script) {
+    let word = reply_transitions_for(0x123);
+    // Of 0x123's first damaged words one has a symbol that is none, and one a wrong checksum.
+    let damaged: Vec<u32> = damaged(word).collect();
+    let bad = |refusal: u32| {
+        let is_bad = |word: &&u32| decode_gcr(**word).refusal == refusal;
+        *damaged.iter().find(is_bad).expect("there is such damage")
+    };
+    script.bidirectional();
+    script.service(1, STARTED);
+    script.cycle();
+    let windows = [
+        Window::of(&[true; WINDOW], 2),
+        Window::bits(23, 2),
+        Window::word(bad(9), 5, 2),
+        Window::word(bad(10), 5, 2),
+    ];
+    expect_refusals(script, 2, windows, [7, 8, 9, 10]);
+    script.cycle();
+    let windows = [
+        Window::reply(0, 20, 2),
+        Window::word(0x1d_6776, 20, 2),
+        Window::reply(0x123, 20, 2).absent(),
+        Window {
+            mask: 0,
+            ..Window::reply(0x123, 20, 2)
+        },
+    ];
+    expect_refusals(script, 3, windows, [11, 0, 7, 7]);
+    script.expect(1, Call::TakeReplies);
+    script.call(Call::ReplyStats);
+}
+
+/// Replies that were read before an exchange is refused can still be taken.
+fn kept_over_a_fault(script: &mut Script) {
+    script.bidirectional();
+    script.service(1, STARTED);
+    script.cycle();
+    let windows = [0x111, 0x222, 0x333, 0x444].map(|value| Window::reply(value, 12, 8));
+    let mut service = Service::at(2).with_windows(&windows);
+    service.taken = [false; 4];
+    script.served(service, FAULTED);
+    script.expect(1, Call::TakeReplies);
+    script.expect(0, Call::TakeReplies);
+}
+
+/// Counts at their largest values: all wrap but the one of bad replies in a row.
+fn full_counts(script: &mut Script) {
+    script.bidirectional();
+    script.call(Call::SetStats([u32::MAX; 11]));
+    script.call(Call::SetReplyStats([u32::MAX; 12]));
+    script.throttles([1, 2, 3, 4], 5, 0);
+    script.service(5, STARTED);
+    script.service(6, EXPIRED);
+    script.cycle();
+    let good = Window::reply(0x123, 10, 1);
+    let windows = [
+        good.clone(),
+        good.clone().absent(),
+        good.clone(),
+        good.absent(),
+    ];
+    let outcome = script.served(Service::at(7).with_windows(&windows), STARTED);
+    let counts = outcome.fields.reply_stats;
+    assert_eq!(counts.consecutive_invalid, [0, u32::MAX, 0, u32::MAX]);
+    script.call(Call::Stats);
+    script.call(Call::ReplyStats);
+    script.service(9, FAULTED);
+    script.unidirectional();
+    script.call(Call::SetStats([u32::MAX; 11]));
+    script.interrupt(0, Status::DONE, SPURIOUS);
+    assert_eq!(script.0.bank.fields().stats.spurious_interrupts, 0);
+}
