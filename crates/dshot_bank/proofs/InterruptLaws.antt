@@ -4,11 +4,10 @@ use mathlib.Core.Path.{_≡_, _∙_, refl, sym, ap, subst}
 use Prim.Native.Nat.{ℕ, _<_}
 use mathlib.Core.Bool.{Bool, true, false, not}
 use mathlib.Core.List.{List, [], _∷_, _++_}
-use mathlib.Core.Option.{none, some}
 use native.Mathlib.Omega.{arith}
 use native.Mathlib.Decide.{decLt}
 use lib.Bits.{bitAnd}
-use lib.Dec.{eqb, ltb}
+use lib.Dec.{eqb}
 use lib.ListN.{length, getD, set, replicate, length-set}
 use lib.Seq.{ext-getD, getD-set-same, getD-set-other}
 use borrow.Author.Tests.{eq-eqb, ne-eqb}
@@ -20,43 +19,19 @@ use Rattle.dshot_bank_spec.specs.State.{Buffers}
 use Rattle.dshot_bank_spec.specs.State as State
 use Rattle.dshot_bank_spec.specs.Order.{Order, pause-and-clear, latchOrders}
 use Rattle.dshot_bank_spec.specs.Interrupt as Spec
-use Rattle.dshot_bank_spec.specs.Calls.{interrupted, on-dma-interrupt, interruptedStep, portRefusal, step}
-use Rattle.dshot_bank.specs.declared.DshotMotor.{DshotMotor}
-use Rattle.dshot_bank.specs.declared.DshotMotor.the-variants.{Motor1, Motor2, Motor3, Motor4}
+use Rattle.dshot_bank_spec.specs.Calls.{interrupted, on-dma-interrupt, act}
 use Rattle.dshot_bank.specs.declared.Core.{Core}
 use Rattle.dshot_bank.specs.declared.DshotBank.{DshotBank}
 use Rattle.dshot_bank.specs.declared.orders.OrderKind.the-variants.{PauseAndClear}
 use Rattle.dshot_bank.specs.declared.orders.Orders.{Orders}
 use Rattle.dshot_bank.specs.declared.interrupt.DshotInterruptEvent.{DshotInterruptEvent}
 use Rattle.dshot_bank.specs.declared.interrupt.Handled.{Handled}
-use Rattle.dshot_bank.specs.States.{motorOf, motorAt, coreOf, repliesOf, stateOf, stepped}
+use Rattle.dshot_bank.specs.States.{coreOf, repliesOf, stateOf, stepped}
 use Rattle.dshot_bank.specs.Orders.{entry, held, dutiesIn, ordersOf, Just, Whole}
 use Rattle.dshot_bank.specs.Interrupts.{interruptEventOf, Interrupts, Begins}
 use Rattle.dshot_bank.proofs.OrderLaws.{Own, Kept, kept-cons, kept-latched, duties-latched, whole, back, just}
 
 -- ---- lanes
-
-pub motor-small : (m : DshotMotor) → motorOf m < 4
-motor-small Motor1 = omega arith
-motor-small Motor2 = omega arith
-motor-small Motor3 = omega arith
-motor-small Motor4 = omega arith
-
--- there is a motor on a lane: it is the lane's, and the lane is one of the four
-pub motor-there : (i k : ℕ) → some k ≡ motorAt i → (k ≡ i) × (ltb i 4 ≡ true)
-motor-there i k e = at (ltb i 4) e
-  where
-    at : (b : Bool) → some k ≡ pick b (some i) none → (k ≡ i) × (b ≡ true)
-    at true h = (cc, refl)
-    at false h = let z : _≡_ {A = ℕ} 0 1 = cc in absurd (omega arith)
-
--- there is none: the lane is not one of the four
-pub motor-missing : (i : ℕ) → none ≡ motorAt i → ltb i 4 ≡ false
-motor-missing i e = at (ltb i 4) e
-  where
-    at : (b : Bool) → none ≡ pick b (some i) none → b ≡ false
-    at true h = let z : _≡_ {A = ℕ} 0 1 = cc in absurd (omega arith)
-    at false h = refl
 
 -- whether a lane's bit is in the mask
 pub bit-there : (mask bit motor : ℕ) → bit ≡ Spec.completionBit motor → (bitAnd mask bit ≡ 0 → ⊥) → Spec.isComplete motor mask ≡ true
@@ -134,13 +109,11 @@ just-so {r} {s} h = just (r .orders) (replicate 4 0) (s .orders) (h .orders) (h 
 
 -- ---- the call
 
--- an interrupt on a lane that there is
-pub stepped-so : {r : Handled} (self : DshotBank) (b : Buffers) (motor lane : ℕ) (complete error turned turned-back : Bool) → lane ≡ motor → ltb motor 4 ≡ true
+-- an interrupt of a motor
+pub stepped-so : {r : Handled} (self : DshotBank) (b : Buffers) (lane : ℕ) (complete error turned turned-back : Bool)
     → Interrupts r (Spec.onDmaInterrupt 4 lane complete error turned turned-back (coreOf (self .core)))
-    → stepped (interrupted (interruptEventOf (r .event)) (ordersOf (r .orders) (replicate 4 0))) (record { core = r .core; replies = self .replies }) b ≡ step 4 (stateOf self b) (on-dma-interrupt motor complete error turned turned-back)
-unfolding step portRefusal
-stepped-so {r} self b motor lane complete error turned turned-back e t h =
-    let by : ℕ → Spec.Interrupted = λ m. Spec.onDmaInterrupt 4 m complete error turned turned-back (coreOf (self .core)) in
-    let told = back (r .orders) (replicate 4 0) (by lane .orders) (h .orders) (h .duties) (h .whole) in
-    rw t ((λ j. record { answer = interrupted (h .event j) (told j); state = record { bank = record { core = h .core j; replies = repliesOf (self .replies) }; buffers = b } })
-    ∙ ap (λ (m : ℕ). interruptedStep (stateOf self b) (by m)) e)
+    → stepped (interrupted (interruptEventOf (r .event)) (ordersOf (r .orders) (replicate 4 0))) (record { core = r .core; replies = self .replies }) b
+    ≡ act 4 (stateOf self b) (on-dma-interrupt lane complete error turned turned-back)
+stepped-so {r} self b lane complete error turned turned-back h =
+    let told = back (r .orders) (replicate 4 0) (Spec.onDmaInterrupt 4 lane complete error turned turned-back (coreOf (self .core)) .orders) (h .orders) (h .duties) (h .whole) in
+    λ j. record { answer = interrupted (h .event j) (told j); state = record { bank = record { core = h .core j; replies = repliesOf (self .replies) }; buffers = b } }

@@ -3,3 +3,4 @@ pub mod SendLaws
 pub mod OrderLaws
 pub mod InterruptLaws
 pub mod ReplyLaws
+pub mod Injective

@@ -8,7 +8,7 @@ use mathlib.Core.List.{List, [], _∷_, map}
 use native.Mathlib.Omega.{arith}
 use borrow.Author.Tests.{eqb-true}
 use lib.Dec.{eqb, ltb}
-use lib.ListN.{length, getD, set, take, drop, length-map, List·getD-map}
+use lib.ListN.{length, getD, take, drop, length-map, List·getD-map}
 use lib.Seq.{ext-getD}
 use Rattle.dshot_reply_spec.specs.Answer.{pick}
 use Rattle.dshot_spec.specs.Tabulate.{tabulate}
@@ -30,12 +30,6 @@ getD-any (x ∷ l) zero d e h = refl
 getD-any (x ∷ l) (suc i) d e h = getD-any l i d e (omega arith)
 
 module _ {A B : Type 0} (f : A → B) where
-  -- to store an entry is to store what it stands for
-  pub map-set : (l : List A) (i : ℕ) (x : A) → map f (set l i x) ≡ set (map f l) i (f x)
-  map-set [] i x = refl
-  map-set (y ∷ l) zero x = refl
-  map-set (y ∷ l) (suc i) x = ap (λ (ys : List B). f y ∷ ys) (map-set l i x)
-
   -- what an entry stands for
   pub map-at : (l : List A) (i : ℕ) (d : A) (e : B) → i < length l → f (getD l i d) ≡ getD (map f l) i e
   map-at l i d e h = sym (List·getD-map f l i d) ∙ getD-any (map f l) i (f d) e (omega (arith, length-map l f))

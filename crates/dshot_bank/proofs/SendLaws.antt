@@ -1,14 +1,14 @@
 -- What the code that sends a frame set rests on: a sequence that is written into a part of the right length, and a part that comes back between
 -- what stands before it and after it.
 -- Assumes nothing.
-use mathlib.Core.Path.{_≡_, _∙_, refl, sym, ap}
+use mathlib.Core.Path.{_≡_, _∙_, refl, ap}
 use mathlib.Core.Bool.{Bool, true, false, not}
 use mathlib.Core.List.{List, [], _∷_, _++_}
 use Prim.Native.Nat.{ℕ, _+_, _-_, _*_}
 use native.Mathlib.Omega.{arith}
 use lib.ListN.{length, getD, take, drop}
 use borrow.Author.Tests.{eq-eqb}
-use Rattle.dshot_reply_spec.specs.Answer.{Answer, given, refused, pick, filled, refusalNumber}
+use Rattle.dshot_reply_spec.specs.Answer.{Answer, given, refused, pick, filled}
 use Rattle.dshot_reply_spec.proofs.Choice.{not-both}
 use Rattle.dshot_spec.specs.Timing.{Timing}
 use Rattle.dshot_spec.specs.Sequence.{Sequence, sequenceOf, encodedSequence, firstDuty}

@@ -2,7 +2,7 @@
 -- Assumes nothing.
 use mathlib.Core.Path.{_≡_, _∙_, refl, sym, ap}
 use mathlib.Core.Bool.{Bool, true, false}
-use mathlib.Core.Option.{Option, none, some, Option·none-ne-some, Option·some-injective}
+use mathlib.Core.Option.{none, some, Option·none-ne-some, Option·some-injective}
 use Prim.Native.Nat.{ℕ, _<_}
 use native.Mathlib.Omega.{arith}
 use lib.Dec.{ltb}
@@ -11,7 +11,7 @@ use Rattle.dshot_reply_spec.specs.Answer as Reply
 use Rattle.dshot_bank_spec.specs.State.{Buffers}
 use Rattle.dshot_bank_spec.specs.State as Spec
 use Rattle.dshot_bank_spec.specs.Refusals.{noSuchMotor}
-use Rattle.dshot_bank_spec.specs.Calls.{Call, Answer, done, refused, State, Stepped, told, changed, commanded, act, laneRefusal, portRefusal, refuseOr, step}
+use Rattle.dshot_bank_spec.specs.Calls.{Call, Answer, done, refused, State, told, changed, commanded, act, laneRefusal, portRefusal, refuseOr, step}
 use Rattle.dshot_bank.specs.declared.DshotMotor.{DshotMotor}
 use Rattle.dshot_bank.specs.declared.DshotMotor.the-variants.{Motor1, Motor2, Motor3, Motor4}
 use Rattle.dshot_bank.specs.declared.Requests.{Requests}

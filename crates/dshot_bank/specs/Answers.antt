@@ -4,7 +4,6 @@ use Prim.Native.Nat.{ℕ}
 use mathlib.Core.Bool.{Bool}
 use mathlib.Core.List.{List, map}
 use mathlib.Core.Option.{some, none}
-use Rattle.dshot_reply_spec.specs.Answer.{wrongLength}
 use Rattle.dshot_reply.specs.declared.DshotReplyError.the-variants.{NoReply}
 use Rattle.dshot_reply.specs.declared.ReplyRead.the-variants as ReplyRead·
 use Rattle.dshot_reply.specs.Answers.{replyAnswer}

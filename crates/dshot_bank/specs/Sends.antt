@@ -1,6 +1,5 @@
 -- What the code that sends a frame set returns, in the terms of the definitions.
 -- Assumes nothing.
-use Prim.Native.Nat.{ℕ}
 use mathlib.Core.Path.{_≡_}
 use mathlib.Core.Option.{Option, none, some}
 use Rattle.dshot.specs.Answers.{laneOf}

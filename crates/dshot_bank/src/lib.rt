@@ -83,6 +83,13 @@ pub enum MotorChoice {
 }
 
 impl DshotMotor {
+    pub const ALL: [DshotMotor; 4] = [
+        DshotMotor::Motor1,
+        DshotMotor::Motor2,
+        DshotMotor::Motor3,
+        DshotMotor::Motor4,
+    ];
+
     pub fn index(self) -> usize
         ensures { λ r. ⌜ r ≡ motorOf self ⌝ }
     {

@@ -1,7 +1,7 @@
 -- One call of a bank, whichever it is: refused by the port, or what the source does.
 -- Assumes nothing.
 use Prim.Native.Nat.{ℕ, _*_}
-use mathlib.Core.Bool.{Bool, true, false, not}
+use mathlib.Core.Bool.{Bool, false, not}
 use mathlib.Core.List.{List, map}
 use mathlib.Core.Option.{Option, none, some}
 use lib.Dec.{eqb, ltb}

@@ -13,7 +13,7 @@ use lib.ListN.{replicate}
 use Rattle.dshot_reply_spec.specs.Answer.{Answer, given, refused, noReply}
 use Rattle.dshot_spec.specs.Timing.{Timing}
 use Rattle.dshot_spec.specs.Throttle.{throttleValues}
-use Rattle.dshot_spec.specs.Command.{CommandRun, Command, send, Next, nextValue}
+use Rattle.dshot_spec.specs.Command.{CommandRun, Command, send, nextValue}
 use Rattle.dshot_spec.specs.Command as Command
 use Rattle.dshot_bank_spec.specs.Lanes.{if_then_else_, any, isSome}
 use Rattle.dshot_bank_spec.specs.State.{Demand, MotorRun, Core, LaneReply, Bank}

@@ -6,7 +6,7 @@ use Prim.Native.Nat.{ℕ, _+_, _-_, _*_, _%_, _^_, min}
 use mathlib.Core.Bool.{Bool, true, false}
 use mathlib.Core.List.{List}
 use lib.ListN.{getD, take, drop}
-use Rattle.dshot_reply_spec.specs.Answer.{Answer, given, refused, pick, noReply}
+use Rattle.dshot_reply_spec.specs.Answer.{Answer, given, refused, noReply}
 use Rattle.dshot_reply_spec.specs.Value.{Reading}
 use Rattle.dshot_reply_spec.specs.Reading.{sampledReply}
 use Rattle.dshot_spec.specs.Tabulate.{tabulate}

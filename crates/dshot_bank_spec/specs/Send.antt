@@ -3,7 +3,7 @@
 -- Copyright (c) 2026 Kaldstrand, Apache-2.0), changed: rewritten as definitions, over n lanes, with two buffers and a mark per lane for the
 -- source's exchanged buffers, so that no spare can be missing.
 -- Assumes nothing.
-use Prim.Native.Nat.{ℕ, _+_, _*_}
+use Prim.Native.Nat.{ℕ, _*_}
 use mathlib.Core.Bool.{Bool, true, false, not}
 use mathlib.Core.List.{List, _++_}
 use mathlib.Core.Option.{Option, none, some}
@@ -15,7 +15,7 @@ use Rattle.dshot_spec.specs.Packet.{Kind, plain, inverted, TelemetryLane, motor
 use Rattle.dshot_spec.specs.Packet as Packet
 use Rattle.dshot_spec.specs.Sequence.{sequenceOf}
 use Rattle.dshot_bank_spec.specs.Lanes.{if_then_else_, each, position, isSome}
-use Rattle.dshot_bank_spec.specs.State.{Telemetry, Frame, Stats, Core, Buffers}
+use Rattle.dshot_bank_spec.specs.State.{Telemetry, Stats, Core, Buffers}
 use Rattle.dshot_bank_spec.specs.With.{withFramesStarted, withDmaFaults, withSpuriousInterrupts, withStartedMs, withCompletionMask, withBusy, withFaulted, withReceiving, withRepliesWaiting, withInSecond, withTelemetry, withCommandSequence, withFrame, withStats}
 use Rattle.dshot_bank_spec.specs.Order.{Order, startOrders, refusedOrders}
 use Rattle.dshot_bank_spec.specs.Commands.{commandStop, MotorCommand, nextCommandFrame}

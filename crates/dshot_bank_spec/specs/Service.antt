@@ -13,7 +13,7 @@ use Rattle.dshot_bank_spec.specs.With.{withBusySkips, withLeaseExpiries,
 use Rattle.dshot_bank_spec.specs.Order.{Order, latchOrders}
 use Rattle.dshot_bank_spec.specs.Commands.{commandStop, clearRequestSent}
 use Rattle.dshot_bank_spec.specs.Replies.{wrappingAdd, decodeReplies}
-use Rattle.dshot_bank_spec.specs.Send.{latchFault, Sent, sendRequested, sentBuffers}
+use Rattle.dshot_bank_spec.specs.Send.{latchFault, sendRequested, sentBuffers}
 
 -- DshotServiceEvent
 pub data ServiceEvent : Type 0 where

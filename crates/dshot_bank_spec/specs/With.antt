@@ -4,7 +4,7 @@ use Prim.Native.Nat.{ℕ}
 use mathlib.Core.Bool.{Bool}
 use mathlib.Core.List.{List}
 use mathlib.Core.Option.{Option}
-use Rattle.dshot_bank_spec.specs.State.{Demand, Telemetry, MotorRun, Frame, Stats, Core, Bank, LaneReply}
+use Rattle.dshot_bank_spec.specs.State.{Demand, Telemetry, MotorRun, Frame, Stats, Core, Bank}
 
 abbrev pub withFramesStarted : ℕ → Stats → Stats
 withFramesStarted v r = record { framesStarted = v; framesCompleted = r .framesCompleted; laneCompletions = r .laneCompletions; busySkips = r .busySkips; leaseExpiries = r .leaseExpiries; frameTimeouts = r .frameTimeouts; dmaFaults = r .dmaFaults; spuriousInterrupts = r .spuriousInterrupts }

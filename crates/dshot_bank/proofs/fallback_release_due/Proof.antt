@@ -1,6 +1,6 @@
 -- `dshot_bank::fallback_release_due` meets its contract.
 -- Assumes nothing.
-use mathlib.Core.Path.{_≡_, ap}
+use mathlib.Core.Path.{ap}
 use Prim.Native.Nat.{_^_}
 use lib.Dec.{leb}
 use Rattle.dshot.proofs.WrapLaws.{wrapped}

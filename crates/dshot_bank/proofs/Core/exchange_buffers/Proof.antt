@@ -1,6 +1,6 @@
 -- `dshot_bank::Core::exchange_buffers` meets its contract.
 -- Assumes nothing.
-use mathlib.Core.Path.{_≡_, _∙_, refl, sym, ap, subst}
+use mathlib.Core.Path.{_∙_, refl, sym, ap, subst}
 use Rattle.dshot_bank.proofs.OrderLaws.{whole-started, duties-started}
 use Rattle.dshot_bank_spec.proofs.LaneLaws.{on, off}
 use Prim.Native.Nat.{ℕ}
@@ -42,8 +42,12 @@ returns-2 c =
     let all = sym (ap (λ (k : ℕ). ltb k 4) (c .before .before .before .lanes-taken .ensures)) ∙ le-ltb _ _ (c .before .before .if1 .left) in
     subst (λ (s : Spec.Sent). Sends (record { started = true; orders = c .before .started .result; «first_duties» = a .duties; core = c .frame-started .result }) s) (off _ _ all refl)
     (record {
-        started = refl; orders = c .before .started .ensures (a .duties); duties = sym (duties-started (a .duties)); whole = whole-started (a .duties);
-        core = c .frame-started .ensures })
+      started = refl;
+      orders = c .before .started .ensures (a .duties);
+      duties = sym (duties-started (a .duties));
+      whole = whole-started (a .duties);
+      core = c .frame-started .ensures;
+    })
 
 pub exchange-buffers-spec : {M : Type 1} → statement M
 exchange-buffers-spec =

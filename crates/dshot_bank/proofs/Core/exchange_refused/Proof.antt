@@ -20,11 +20,12 @@ refused-requires c κs = search needs
 returns : tie.Need-returns
 unfolding exchangeRefused
 returns c = record {
-    started = refl;
-    orders = c .refused .ensures;
-    duties = duties-refused (c .before .before .before .args .lane);
-    whole = whole-refused (c .before .before .before .args .lane);
-    core = c .before .latch-fault .ensures ∙ ap (latchFault 4 false) (c .before .before .marks-turned .ensures) }
+  started = refl;
+  orders = c .refused .ensures;
+  duties = duties-refused (c .before .before .before .args .lane);
+  whole = whole-refused (c .before .before .before .args .lane);
+  core = c .before .latch-fault .ensures ∙ ap (latchFault 4 false) (c .before .before .marks-turned .ensures);
+}
 
 pub exchange-refused-spec : {M : Type 1} → statement M
 exchange-refused-spec =

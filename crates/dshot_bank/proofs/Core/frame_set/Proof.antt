@@ -5,7 +5,6 @@ use Rattle.dshot_bank_spec.specs.Send.{frameSet}
 use Rattle.dshot_bank.specs.declared.send.FrameCommand.{FrameCommand}
 use Rattle.dshot_bank.specs.States.{coreOf}
 use Rattle.dshot_bank.specs.Sends.{motorCommandOf}
-use Rattle.dshot_bank_spec.specs.Send as Send
 use Rattle.dshot_spec.specs.Packet as Packet
 use mathlib.Core.Option.{none}
 use Rattle.dshot_bank.specs.States.{choiceOf}

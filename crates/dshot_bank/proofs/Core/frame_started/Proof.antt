@@ -1,7 +1,6 @@
 -- `dshot_bank::Core::frame_started` meets its contract.
 -- Assumes nothing.
 use mathlib.Core.Path.{_∙_, ap}
-use Prim.Native.Nat.{ℕ}
 use mathlib.Core.Bool.{true}
 use Rattle.dshot_bank_spec.specs.With.{withFramesStarted, withStartedMs, withCompletionMask, withBusy, withTelemetry, withFrame, withStats}
 use Rattle.dshot_bank_spec.specs.Replies.{wrappingAdd}
@@ -30,12 +29,12 @@ returns c =
     let m = coreOf (c .before .before .before .before .marks-turned .result) in
     let e = c .carrying .ensures in
     (λ j. withStats (withFramesStarted (c .before .wrapping-add .ensures j) (m .stats))
-        (withCommandSequence (commandSequenceOf (e .1 j))
-        (withTelemetry (e .0 j) (withFrame (withBusy true (withCompletionMask 0 (withStartedMs (a .now-ms) (m .frame)))) m))))
+    (withCommandSequence (commandSequenceOf (e .1 j))
+    (withTelemetry (e .0 j) (withFrame (withBusy true (withCompletionMask 0 (withStartedMs (a .now-ms) (m .frame)))) m))))
     ∙ ap
     (λ (k : Spec.Core). withTelemetry (carry (choiceOf (a .request)) (k .telemetry))
-        (withStats (withFramesStarted (wrappingAdd (k .stats .framesStarted)) (k .stats))
-        (withFrame (withBusy true (withCompletionMask 0 (withStartedMs (a .now-ms) (k .frame)))) k)))
+    (withStats (withFramesStarted (wrappingAdd (k .stats .framesStarted)) (k .stats))
+    (withFrame (withBusy true (withCompletionMask 0 (withStartedMs (a .now-ms) (k .frame)))) k)))
     (c .before .before .before .before .marks-turned .ensures)
 
 pub frame-started-spec : {M : Type 1} → statement M

@@ -25,9 +25,9 @@ returns c =
     c .stopped .ensures
     ∙ ap
     (λ (s : Spec.Stats). commandStop 4
-        (withCommandSequence none
-        (withTelemetry (record { request = none; requestSent = none })
-        (withFrame (withRepliesWaiting false (withReceiving false (withBusy false (withFaulted true (k .frame))))) (withStats s k)))))
+    (withCommandSequence none
+    (withTelemetry (record { request = none; requestSent = none })
+    (withFrame (withRepliesWaiting false (withReceiving false (withBusy false (withFaulted true (k .frame))))) (withStats s k)))))
     (c .before .before .count-fault .ensures)
 
 pub latch-fault-spec : {M : Type 1} → statement M

@@ -8,7 +8,8 @@ use Rattle.dshot_bank_spec.specs.State.{Core}
 use Rattle.dshot_bank_spec.specs.Order.{pause-and-clear, latchOrders}
 use Rattle.dshot_bank_spec.specs.Interrupt.{afterLane, onDmaInterrupt}
 use Rattle.dshot_bank.specs.States.{motorOf}
-use Rattle.dshot_bank.proofs.InterruptLaws.{motor-small, bit-there, bit-missing, quiet-none, quiet-latched, quiet-cons, begun, settled, by-handled, by-latched}
+use Rattle.dshot_bank.proofs.InterruptLaws.{bit-there, bit-missing, quiet-none, quiet-latched, quiet-cons, begun, settled, by-handled, by-latched}
+use Rattle.dshot_bank.proofs.StepLaws.{motor-small}
 use borrow.Author.Needs.{needs}
 use Rattle.dshot_bank.proofs.Core.on_dma_interrupt.Statement.{statement}
 use Rattle.dshot_bank.proofs.Core.on_dma_interrupt.Tie as tie
@@ -20,7 +21,7 @@ index-requires : tie.Need-index-requires
 index-requires c κs = search needs
 
 cast-push : tie.Need-cast-push
-cast-push c = record { fits = omega (arith, c .index .ensures, motor-small (c .before .before .args .motor)) }
+cast-push c = record { fits = omega (arith, motor-small (c .before .before .args .motor) (c .index .ensures)) }
 
 push-requires : tie.Need-push-requires
 push-requires c κs = search needs

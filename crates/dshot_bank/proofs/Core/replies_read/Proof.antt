@@ -3,7 +3,6 @@
 use mathlib.Core.Path.{refl}
 use Rattle.dshot_bank_spec.proofs.LaneLaws.{on, off}
 use Rattle.dshot_bank_spec.specs.Service.{repliesRead}
-use borrow.Author.Needs.{needs}
 use Rattle.dshot_bank.proofs.Core.replies_read.Statement.{statement}
 use Rattle.dshot_bank.proofs.Core.replies_read.Tie as tie
 

@@ -1,19 +1,17 @@
 -- `dshot_bank::Core::send_requested` meets its contract.
 -- Assumes nothing.
-use mathlib.Core.Path.{_≡_, _∙_, refl, sym, ap, subst}
+use mathlib.Core.Path.{_∙_, ap, subst}
 use Prim.Native.Nat.{ℕ}
 use mathlib.Core.List.{List}
 use Rattle.dshot_bank.proofs.StepLaws.{withRequests}
-use Rattle.dshot.specs.Answers.{words}
 use Rattle.dshot_spec.specs.Packet.{motorPackets}
-use Rattle.dshot_bank_spec.specs.State.{Buffers}
 use Rattle.dshot_bank_spec.specs.With.{withCommandSequence}
 use Rattle.dshot_bank_spec.specs.Commands.{NextFrame}
-use Rattle.dshot_bank_spec.specs.Send.{FrameSet, frameSet, nextSet, packetsSent, firstDuties, encodeLanes, exchangeBuffers, sendRequested}
+use Rattle.dshot_bank_spec.specs.Send.{frameSet, firstDuties, encodeLanes, exchangeBuffers, sendRequested}
 use Rattle.dshot_bank_spec.specs.Send as Spec
 use Rattle.dshot_bank.specs.declared.Requests.{Requests}
 use Rattle.dshot_bank.specs.States.{coreOf}
-use Rattle.dshot_bank.specs.Sends.{frameSetOf, Sends}
+use Rattle.dshot_bank.specs.Sends.{Sends}
 use borrow.Author.Needs.{needs}
 use Rattle.dshot_bank.proofs.Core.send_requested.Statement.{statement}
 use Rattle.dshot_bank.proofs.Core.send_requested.Tie as tie
@@ -56,11 +54,12 @@ returns c =
     let written = c .before .before .before .before .before .before .encode-lanes .ensures in
     let duties = written .0 ∙ ap (firstDuties 4 (k .timing)) packets in
     let left =
-        ap (λ (r : Requests). coreOf (withRequests (a .self) r)) (c .before .running .ensures) ∙ ap (λ (n : NextFrame). withCommandSequence (n .left) k) next in
-    (subst (λ (s : Spec.Sent). Sends (c .exchange-buffers .result) s)
-     (λ j. exchangeBuffers 4 (a .now-ms) (a .taken) (chosen j .telemetryRequest) (duties j) (left j)) (c .exchange-buffers .ensures),
-     written .1
-     ∙ ap (λ (p : List ℕ). encodeLanes 4 (k .timing) (k .frame .inSecond) p (record { first = a .first .now; second = a .second .now })) packets)
+    ap (λ (r : Requests). coreOf (withRequests (a .self) r)) (c .before .running .ensures) ∙ ap (λ (n : NextFrame). withCommandSequence (n .left) k) next in (
+      subst (λ (s : Spec.Sent). Sends (c .exchange-buffers .result) s)
+          (λ j. exchangeBuffers 4 (a .now-ms) (a .taken) (chosen j .telemetryRequest) (duties j) (left j)) (c .exchange-buffers .ensures),
+      written .1
+          ∙ ap (λ (p : List ℕ). encodeLanes 4 (k .timing) (k .frame .inSecond) p (record { first = a .first .now; second = a .second .now })) packets,
+    )
 
 pub send-requested-spec : {M : Type 1} → statement M
 send-requested-spec =

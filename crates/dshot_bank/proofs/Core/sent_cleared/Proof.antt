@@ -1,6 +1,5 @@
 -- `dshot_bank::Core::sent_cleared` meets its contract.
 -- Assumes nothing.
-use mathlib.Core.Path.{refl}
 use Rattle.dshot_bank_spec.specs.Commands.{clearRequestSent}
 use mathlib.Core.Path.{ap}
 use Rattle.dshot_bank.specs.declared.Requests.{Requests}

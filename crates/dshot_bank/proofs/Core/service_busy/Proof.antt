@@ -10,7 +10,6 @@ use Rattle.dshot_bank_spec.specs.Send.{latchFault}
 use Rattle.dshot_bank_spec.specs.Service.{countTimeout, serviceBusy}
 use Rattle.dshot_bank_spec.specs.Service as Spec
 use Rattle.dshot_bank_spec.specs.State as State
-use Rattle.dshot_bank.specs.States.{coreOf}
 use Rattle.dshot_bank.specs.Serves.{Skips}
 use Rattle.dshot_bank.specs.declared.service.DshotServiceEvent.the-variants.{Busy, LeaseExpired, Faulted}
 use borrow.Author.Needs.{needs}
@@ -42,8 +41,12 @@ returns c =
     let test = sym (ap (λ (q : State.Core). leaseExpired (q .frame .startedMs) 1 (c .before .before .before .before .before .before .before .args .now-ms)) e) ∙ sym (c .before .before .before .before .before .command-lease-expired .ensures) ∙ c .before .before .before .before .if1 .taken in
     subst (λ (s : Spec.Skipped). Skips (record { event = Faulted; orders = c .before .before .latched .result; core = c .latch-fault .result }) s) (on _ _ test refl)
     (record {
-        event = refl; orders = c .before .before .latched .ensures [] (c .before .before .before .none .ensures .1); duties = duties-latched; whole = whole-latched;
-        core = c .latch-fault .ensures ∙ ap (latchFault 4 false) (c .before .timeout-counted .ensures ∙ ap countTimeout e) })
+      event = refl;
+      orders = c .before .before .latched .ensures [] (c .before .before .before .none .ensures .1);
+      duties = duties-latched;
+      whole = whole-latched;
+      core = c .latch-fault .ensures ∙ ap (latchFault 4 false) (c .before .timeout-counted .ensures ∙ ap countTimeout e);
+    })
 
 none-requires-2 : tie.Need-none-requires-2
 none-requires-2 c κs = search needs

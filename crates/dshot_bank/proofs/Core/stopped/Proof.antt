@@ -2,7 +2,6 @@
 -- Assumes nothing.
 use mathlib.Core.Path.{refl}
 use Rattle.dshot_bank_spec.specs.Commands.{commandStop}
-use borrow.Author.Needs.{needs}
 use Rattle.dshot_bank.proofs.Core.stopped.Statement.{statement}
 use Rattle.dshot_bank.proofs.Core.stopped.Tie as tie
 

@@ -1,9 +1,9 @@
 -- `dshot_bank::Demand::is_running` meets its contract.
 -- Assumes nothing.
 use mathlib.Core.Path.{_∙_, sym, ap}
-use mathlib.Core.Bool.{Bool, true}
+use mathlib.Core.Bool.{true}
 use Rattle.dshot_bank_spec.specs.Lanes.{isSome}
-use Rattle.dshot_bank_spec.specs.Commands.{anyRequested, isRunning}
+use Rattle.dshot_bank_spec.specs.Commands.{anyRequested}
 use Rattle.dshot_reply_spec.specs.Answer.{pick}
 use Rattle.dshot_bank.specs.declared.Lease.{Lease}
 use Rattle.dshot_bank.specs.States.{leaseOf}

@@ -1,6 +1,6 @@
 -- `dshot_bank::DshotBank::cancel_telemetry_request` meets its contract.
 -- Assumes nothing.
-use mathlib.Core.Path.{refl, ap}
+use mathlib.Core.Path.{ap}
 use Rattle.dshot_bank.proofs.StepLaws.{changed-so}
 use Rattle.dshot_bank_spec.specs.Calls.{step, portRefusal}
 use Rattle.dshot_bank_spec.specs.Commands.{cancelTelemetryRequest}

@@ -27,7 +27,7 @@ unfolding portRefusal
 returns c =
     let q = runOf (c .before .before .before .before .before .args .sequence) in
     λ b. c .queue .ensures b
-        ∙ found-step _ (λ (i : ℕ). command-special i q) (λ i. refl) _ (c .before .before .motor .given .0 .0) (sym (ap choiceOf (c .before .before .motor .given .1)) ∙ c .before .before .before .before .from-index .ensures)
+    ∙ found-step _ (λ (i : ℕ). command-special i q) (λ i. refl) _ (c .before .before .motor .given .0 .0) (sym (ap choiceOf (c .before .before .motor .given .1)) ∙ c .before .before .before .before .from-index .ensures)
 
 returns-2 : tie.Need-returns-2
 unfolding portRefusal

@@ -8,9 +8,8 @@ use mathlib.Core.List.{List}
 use mathlib.Core.Option.{some}
 use Prim.Native.Nat.{ℕ}
 use Rattle.dshot_reply_spec.specs.Answer.{given}
-use borrow.Author.Tests.{not-true, not-false}
 use Rattle.dshot_bank_spec.specs.Commands.{commandThrottles}
-use Rattle.dshot_bank_spec.specs.Calls.{step, portRefusal, State, commanded}
+use Rattle.dshot_bank_spec.specs.Calls.{step, portRefusal, commanded}
 use Rattle.dshot_bank_spec.specs.With.{withDemand}
 use Rattle.dshot_bank.specs.States.{coreOf, stateOf}
 use borrow.Author.Needs.{needs}
@@ -39,9 +38,9 @@ unfolding step portRefusal commandThrottles
 returns-3 c =
     let s = c .before .before .before .before .before .before .args .self in
     λ b. c .command-stop .ensures b
-        ∙ ap (commanded (stateOf s b))
-        (off _ _ (c .before .before .before .before .before .if1 .left)
-        (off _ _ (sym (c .before .before .before .before .any-above .ensures) ∙ c .before .before .before .if2 .left) (on _ _ (ap not (sym (c .before .before .any-requested .ensures)) ∙ c .before .if3 .taken) refl)))
+    ∙ ap (commanded (stateOf s b))
+    (off _ _ (c .before .before .before .before .before .if1 .left)
+    (off _ _ (sym (c .before .before .before .before .any-above .ensures) ∙ c .before .before .before .if2 .left) (on _ _ (ap not (sym (c .before .before .any-requested .ensures)) ∙ c .before .if3 .taken) refl)))
 
 throttles-to-dshot-requires : tie.Need-throttles-to-dshot-requires
 throttles-to-dshot-requires c κs = search needs
@@ -52,10 +51,10 @@ returns-4 c =
     let a = c .before .before .before .before .before .before .before .args in
     let k = coreOf (a .self .core) in
     λ b. ap (commanded (stateOf (a .self) b))
-        (off _ _ (c .before .before .before .before .before .before .if1 .left)
-        (off _ _ (sym (c .before .before .before .before .before .any-above .ensures) ∙ c .before .before .before .before .if2 .left)
-        (off _ _ (ap not (sym (c .before .before .before .any-requested .ensures)) ∙ c .before .before .if3 .left)
-        (ap (λ (v : List ℕ). given (withDemand (record { requestedValues = v; leaseStartedMs = a .now-ms; leaseDurationMs = some (a .lease-duration-ms) }) k)) (c .before .throttles-to-dshot .ensures)))))
+    (off _ _ (c .before .before .before .before .before .before .if1 .left)
+    (off _ _ (sym (c .before .before .before .before .before .any-above .ensures) ∙ c .before .before .before .before .if2 .left)
+    (off _ _ (ap not (sym (c .before .before .before .any-requested .ensures)) ∙ c .before .before .if3 .left)
+    (ap (λ (v : List ℕ). given (withDemand (record { requestedValues = v; leaseStartedMs = a .now-ms; leaseDurationMs = some (a .lease-duration-ms) }) k)) (c .before .throttles-to-dshot .ensures)))))
 
 pub command-throttles-spec : {M : Type 1} → statement M
 command-throttles-spec =

@@ -6,7 +6,6 @@ use Rattle.dshot_bank_spec.proofs.LaneLaws.{on, off}
 use Rattle.dshot_bank_spec.specs.Calls.{commanded, step, portRefusal}
 use Rattle.dshot_bank_spec.specs.Commands.{enableBidirectional}
 use Rattle.dshot_bank.specs.States.{stateOf}
-use borrow.Author.Needs.{needs}
 use Rattle.dshot_bank.proofs.DshotBank.enable_bidirectional.Statement.{statement}
 use Rattle.dshot_bank.proofs.DshotBank.enable_bidirectional.Tie as tie
 

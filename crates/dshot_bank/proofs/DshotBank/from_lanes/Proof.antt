@@ -1,6 +1,5 @@
 -- `dshot_bank::DshotBank::from_lanes` meets its contract.
 -- Assumes nothing.
-use mathlib.Core.Path.{refl}
 use Rattle.dshot_bank_spec.specs.Commands.{fromLanes}
 use borrow.Author.Needs.{needs}
 use Rattle.dshot_bank.proofs.DshotBank.from_lanes.Statement.{statement}

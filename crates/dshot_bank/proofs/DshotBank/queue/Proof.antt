@@ -35,7 +35,7 @@ returns-3 : tie.Need-returns-3
 unfolding commandSpecial
 returns-3 c =
     λ b. refused-so (c .before .before .before .before .before .before .before .args .self) b
-        (off _ _ (c .before .before .before .before .before .before .if1 .left) (off _ _ (sym (c .before .before .before .before .is-running .ensures) ∙ c .before .before .before .if2 .left) (on _ _ (sym (c .before .is-some .ensures) ∙ c .if3 .taken) refl)))
+    (off _ _ (c .before .before .before .before .before .before .if1 .left) (off _ _ (sym (c .before .before .before .before .is-running .ensures) ∙ c .before .before .before .if2 .left) (on _ _ (sym (c .before .is-some .ensures) ∙ c .if3 .taken) refl)))
 
 array-read-t22 : tie.Need-array-read-t22
 array-read-t22 c = search needs
@@ -52,12 +52,12 @@ returns-4 c =
     let a = c .before .before .before .before .before .before .before .before .before .before .args in
     let k = a .self .core in
     let queued =
-        ap (λ (r : Requests). given (coreOf (withRequests k r))) (c .before .running .ensures)
-        ∙ ap
-        (λ (l : List ℕ). given (withCommandSequence (some (record { motor = motorOf (a .motor); sequence = record { commands = l; index = a .sequence .index; repeatsLeft = a .sequence .«repeats_left» } })) (coreOf k)))
-        (two (a .sequence .commands) (search needs)) in
+    ap (λ (r : Requests). given (coreOf (withRequests k r))) (c .before .running .ensures)
+    ∙ ap
+    (λ (l : List ℕ). given (withCommandSequence (some (record { motor = motorOf (a .motor); sequence = record { commands = l; index = a .sequence .index; repeatsLeft = a .sequence .«repeats_left» } })) (coreOf k)))
+    (two (a .sequence .commands) (search needs)) in
     λ b. given-so (a .self) b (withRequests k (c .before .running .result))
-        (off _ _ (c .before .before .before .before .before .before .before .before .before .if1 .left) (off _ _ (sym (c .before .before .before .before .before .before .before .is-running .ensures) ∙ c .before .before .before .before .before .before .if2 .left) (off _ _ (sym (c .before .before .before .before .is-some .ensures) ∙ c .before .before .before .if3 .left) queued)))
+    (off _ _ (c .before .before .before .before .before .before .before .before .before .if1 .left) (off _ _ (sym (c .before .before .before .before .before .before .before .is-running .ensures) ∙ c .before .before .before .before .before .before .if2 .left) (off _ _ (sym (c .before .before .before .before .is-some .ensures) ∙ c .before .before .before .if3 .left) queued)))
 
 pub queue-spec : {M : Type 1} → statement M
 queue-spec =

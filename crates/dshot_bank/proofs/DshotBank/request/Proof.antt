@@ -24,7 +24,7 @@ returns-2 : tie.Need-returns-2
 unfolding requestTelemetry
 returns-2 c =
     λ b. refused-so (c .before .before .before .before .args .self) b
-        (off _ _ (c .before .before .before .if1 .left) (on _ _ (sym (c .before .is-some .ensures) ∙ c .if2 .taken) refl))
+    (off _ _ (c .before .before .before .if1 .left) (on _ _ (sym (c .before .is-some .ensures) ∙ c .if2 .taken) refl))
 
 requesting-requires : tie.Need-requesting-requires
 requesting-requires c κs = search needs
@@ -34,8 +34,8 @@ unfolding requestTelemetry
 returns-3 c =
     let s = c .before .before .before .before .before .before .args .self in
     λ b. given-so s b (withRequests (s .core) (c .before .requesting .result))
-        (off _ _ (c .before .before .before .before .before .if1 .left)
-        (off _ _ (sym (c .before .before .before .is-some .ensures) ∙ c .before .before .if2 .left) (ap (λ (r : Requests). given (coreOf (withRequests (s .core) r))) (c .before .requesting .ensures))))
+    (off _ _ (c .before .before .before .before .before .if1 .left)
+    (off _ _ (sym (c .before .before .before .is-some .ensures) ∙ c .before .before .if2 .left) (ap (λ (r : Requests). given (coreOf (withRequests (s .core) r))) (c .before .requesting .ensures))))
 
 pub request-spec : {M : Type 1} → statement M
 request-spec =

@@ -28,12 +28,13 @@ returns c =
     let a = c .before .before .before .before .before .before .before .before .before .before .before .before .before .args in
     let sent = c .before .before .before .before .before .before .before .before .send-requested .ensures in
     record {
-        answer = ap (λ (e : ServiceEvent). serviced e (sendRequested 4 (a .now-ms) (a .taken) (coreOf (a .core)) .orders)) (c .before .before .before .sent-event .ensures ∙ ap (λ (s : Bool). sentEvent s (a .lease-expired)) (sent .0 .started));
-        orders = sent .0 .orders;
-        duties = sent .0 .duties;
-        whole = sent .0 .whole;
-        bank = ap (λ (k : Core). record { core = k; replies = repliesOf (a .replies) }) (sent .0 .core);
-        buffers = sent .1 }
+      answer = ap (λ (e : ServiceEvent). serviced e (sendRequested 4 (a .now-ms) (a .taken) (coreOf (a .core)) .orders)) (c .before .before .before .sent-event .ensures ∙ ap (λ (s : Bool). sentEvent s (a .lease-expired)) (sent .0 .started));
+      orders = sent .0 .orders;
+      duties = sent .0 .duties;
+      whole = sent .0 .whole;
+      bank = ap (λ (k : Core). record { core = k; replies = repliesOf (a .replies) }) (sent .0 .core);
+      buffers = sent .1;
+    }
 
 pub send-spec : {M : Type 1} → statement M
 send-spec =

@@ -1,14 +1,14 @@
 -- `dshot_bank::DshotBank::service` meets its contract.
 -- Assumes nothing.
-use mathlib.Core.Path.{_≡_, _∙_, refl, sym, ap}
-use mathlib.Core.Bool.{Bool, true, false}
+use mathlib.Core.Path.{_∙_, refl, sym, ap}
+use mathlib.Core.Bool.{Bool}
 use mathlib.Core.List.{List, []}
 use borrow.Author.Tests.{not-true, not-false}
 use Rattle.dshot_bank.proofs.OrderLaws.{whole-none, back, just}
 use Rattle.dshot_bank_spec.specs.State.{Buffers}
 use Rattle.dshot_bank_spec.specs.Order.{Order}
-use Rattle.dshot_bank_spec.specs.Calls.{Answer, State, Stepped, act, lengthRefusal, refuseOr, portRefusal, step, service-call}
-use Rattle.dshot_bank.specs.States.{bankOf, stateOf}
+use Rattle.dshot_bank_spec.specs.Calls.{State, act, lengthRefusal, refuseOr, portRefusal, step, service-call}
+use Rattle.dshot_bank.specs.States.{stateOf}
 use Rattle.dshot_bank.specs.Serves.{serviceAnswer, lengthsFit}
 use Rattle.dshot_bank.specs.Views.{twoFit}
 use Rattle.dshot_bank.proofs.ReplyLaws.{three-fit}
@@ -52,10 +52,11 @@ returns-2 c =
     let h = c .before .before .before .before .service-lanes .ensures in
     let r = c .before .before .before .before .service-lanes .result in
     let told = back (r .orders) (r .«first_duties») _ (h .orders) (h .duties) (h .whole) in
-    let answer = ap (λ (l : List Order). serviceAnswer (r .answer) l) told ∙ h .answer in
-    ((λ j. record { answer = answer j; state = record { bank = h .bank j; buffers = h .buffers j } })
-     ∙ sym (ap (λ (t : Bool). refuseOr s (lengthRefusal t 0) acted) fit),
-     just (r .orders) (r .«first_duties») _ (h .orders) (h .duties) (h .whole))
+    let answer = ap (λ (l : List Order). serviceAnswer (r .answer) l) told ∙ h .answer in (
+      (λ j. record { answer = answer j; state = record { bank = h .bank j; buffers = h .buffers j } })
+          ∙ sym (ap (λ (t : Bool). refuseOr s (lengthRefusal t 0) acted) fit),
+      just (r .orders) (r .«first_duties») _ (h .orders) (h .duties) (h .whole),
+    )
 
 pub service-spec : {M : Type 1} → statement M
 service-spec =

@@ -3,7 +3,7 @@
 use mathlib.Core.Path.{_∙_, refl, sym, ap, subst}
 use Rattle.dshot_bank.proofs.OrderLaws.{whole-none}
 use Rattle.dshot_bank_spec.proofs.LaneLaws.{on, off}
-use mathlib.Core.List.{List, []}
+use mathlib.Core.List.{[]}
 use Rattle.dshot_bank_spec.specs.State.{Core, Buffers}
 use Rattle.dshot_bank_spec.specs.Commands.{clearRequestSent}
 use Rattle.dshot_bank_spec.specs.Service.{demandExpired, expireLease, serviceBusy, repliesRead, readReplies, skipped, unsent, sending, serviceCore}
@@ -91,8 +91,8 @@ returns-3 c =
     let in-flight = sym (ap (λ (q : Core). q .frame .busy) leased) ∙ c .before .before .before .before .before .before .before .before .before .if2 .left in
     let held = c .before .before .before .before .before .before .before .replies-read .ensures ∙ ap repliesRead leased in
     let decoded =
-        c .before .before .before .before .before .before .before .before .read-replies .ensures
-        ∙ ap (λ (q : Core). readReplies 4 (q .frame .repliesWaiting) (a .present) (a .masks) (a .captures .now) (repliesOf (a .self .replies))) leased in
+    c .before .before .before .before .before .before .before .before .read-replies .ensures
+    ∙ ap (λ (q : Core). readReplies 4 (q .frame .repliesWaiting) (a .present) (a .masks) (a .captures .now) (repliesOf (a .self .replies))) leased in
     subst (λ (s : Spec.Served). Serves (c .before .before .before .before .send .result) (record { first = c .before .before .before .before .send .last .1 .1 .1 .1 .1 .0; second = c .before .before .before .before .send .last .1 .1 .1 .1 .1 .1 .0 }) s)
     ((λ j. sending 4 (a .now-ms) (a .taken) (a .present) (a .masks) (a .captures .now) (repliesOf (a .self .replies)) b (ran-out j) (held j) (decoded j))
     ∙ off _ _ fault (off _ _ in-flight refl))

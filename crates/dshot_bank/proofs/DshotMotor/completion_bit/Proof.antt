@@ -1,6 +1,5 @@
 -- `dshot_bank::DshotMotor::completion_bit` meets its contract.
 -- Assumes nothing.
-use mathlib.Core.Path.{refl}
 use mathlib.Core.Path.{sym, ap}
 use Rattle.dshot_bank.specs.declared.DshotMotor.{DshotMotor}
 use Rattle.dshot_bank_spec.specs.Interrupt.{completionBit}

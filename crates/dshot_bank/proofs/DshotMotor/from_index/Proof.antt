@@ -1,14 +1,12 @@
 -- `dshot_bank::DshotMotor::from_index` meets its contract.
 -- Assumes nothing.
 use mathlib.Core.Path.{refl}
-use lib.Dec.{ltb}
-use mathlib.Core.Path.{_≡_, refl, sym, ap}
-use Rattle.dshot_bank_spec.proofs.LaneLaws.{on, off}
+use mathlib.Core.Path.{refl, sym, ap}
+use Rattle.dshot_bank_spec.proofs.LaneLaws.{off}
 use Rattle.dshot_bank.specs.States.{motorAt}
 use native.Mathlib.Omega.{arith}
 use borrow.Author.Tests.{le-ltb}
-use Prim.Native.Nat.{ℕ, _≤_}
-use borrow.Author.Needs.{needs}
+use Prim.Native.Nat.{_≤_}
 use Rattle.dshot_bank.proofs.DshotMotor.from_index.Statement.{statement}
 use Rattle.dshot_bank.proofs.DshotMotor.from_index.Tie as tie
 

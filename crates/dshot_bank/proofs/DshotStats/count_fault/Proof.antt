@@ -1,7 +1,5 @@
 -- `dshot_bank::DshotStats::count_fault` meets its contract.
 -- Assumes nothing.
-use Rattle.dshot_bank_spec.specs.Send.{countFault}
-use Prim.Native.Nat.{ℕ}
 use Rattle.dshot_bank.proofs.SendLaws.{pick-not}
 use borrow.Author.Needs.{needs}
 use Rattle.dshot_bank.proofs.DshotStats.count_fault.Statement.{statement}

@@ -10,7 +10,8 @@ use Rattle.dshot_spec.proofs.Tabulated.{Filled, filled-none, filled-more, fille
 use Rattle.dshot_bank_spec.specs.Commands.{noReplies}
 use Rattle.dshot_bank_spec.specs.Replies.{readWindow, countReply, decodeLane, decodeReplies}
 use Rattle.dshot_bank.specs.States.{laneReplyOf, repliesOf}
-use Rattle.dshot_bank.proofs.ReplyLaws.{map-set, map-at, part-is}
+use Rattle.dshot_bank.proofs.ReplyLaws.{map-at, part-is}
+use Rattle.dshot_bank_spec.proofs.LaneLaws.{map-set}
 use borrow.Author.Needs.{needs}
 use Rattle.dshot_bank.proofs.replies.decode_replies.Statement.{statement}
 use Rattle.dshot_bank.proofs.replies.decode_replies.Tie as tie

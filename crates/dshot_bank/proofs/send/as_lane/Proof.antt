@@ -1,7 +1,6 @@
 -- `dshot_bank::send::as_lane` meets its contract.
 -- Assumes nothing.
 use mathlib.Core.Path.{_∙_, sym, ap}
-use Prim.Native.Nat.{ℕ}
 use Rattle.dshot_spec.specs.Packet as Packet
 use Rattle.dshot_bank_spec.specs.Send.{asLane}
 use Rattle.dshot_bank.specs.declared.MotorChoice.{MotorChoice}

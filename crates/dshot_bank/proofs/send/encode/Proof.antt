@@ -1,11 +1,9 @@
 -- `dshot_bank::send::encode` meets its contract.
 -- Assumes nothing.
-use mathlib.Core.Path.{_≡_, _∙_, refl, sym, ap}
-use Prim.Native.Nat.{ℕ}
+use mathlib.Core.Path.{_≡_, _∙_, sym, ap}
 use Rattle.dshot_bank.proofs.SendLaws.{slots-written, duty-returned, never-refused}
-use Rattle.dshot.specs.declared.Sequenced.{Sequenced}
 use Rattle.dshot.specs.Answers.{timingOf, firstAnswer}
-use Rattle.dshot_reply_spec.specs.Answer.{Answer, given, refused}
+use Rattle.dshot_reply_spec.specs.Answer.{given}
 use Rattle.dshot_spec.specs.Sequence.{sequenceOf}
 use borrow.Author.Needs.{needs}
 use Rattle.dshot_bank.proofs.send.encode.Statement.{statement}
@@ -29,7 +27,7 @@ returns c =
     let e = c .before .before .before .before .before .encode-compare-sequence .ensures in
     let long = c .before .before .before .before .before .before .before .before .pre in
     let told : given (c .before .duty .given .0 .0) ≡ given (sequenceOf (timingOf (a .timing)) (a .packet .0) .first) =
-        sym (ap firstAnswer (c .before .duty .given .1)) ∙ duty-returned (a .part .now) (a .packet .0) (timingOf (a .timing)) long (e .0) in
+    sym (ap firstAnswer (c .before .duty .given .1)) ∙ duty-returned (a .part .now) (a .packet .0) (timingOf (a .timing)) long (e .0) in
     (cc told, slots-written (a .part .now) (a .packet .0) (timingOf (a .timing)) long (e .1))
 
 same-length-2 : tie.Need-same-length-2

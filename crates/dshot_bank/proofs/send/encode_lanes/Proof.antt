@@ -57,11 +57,13 @@ loop-again c =
     let l = c .before .before .before .before .before .before .before .before .before .loop in
     let t = timingOf (a .timing) in
     let word = sym (List·getD-map (λ (p : DshotPacket). p .0) (a .t4) (l .lane) (record { 0 = 0 })) in
-    let put = c .before .before .before .before .write-spare .ensures in
-    (filled-more (l .inv .0) (c .before .before .before .before .before .before .before .before .loop-test .taken) (put .0 ∙ ap (λ (w : ℕ). sequenceOf t w .first) word),
-     each-more _ _ _ (l .inv .1)
-     (put .1 ∙ ap (λ (w : ℕ). writeSpare (getD (a .t3) (l .lane) false) (l .lane) (sequenceOf t w .slots) (record { first = l .first; second = l .second })) word),
-     search needs, search needs)
+    let put = c .before .before .before .before .write-spare .ensures in (
+      filled-more (l .inv .0) (c .before .before .before .before .before .before .before .before .loop-test .taken) (put .0 ∙ ap (λ (w : ℕ). sequenceOf t w .first) word),
+      each-more _ _ _ (l .inv .1)
+          (put .1 ∙ ap (λ (w : ℕ). writeSpare (getD (a .t3) (l .lane) false) (l .lane) (sequenceOf t w .slots) (record { first = l .first; second = l .second })) word),
+      search needs,
+      search needs,
+    )
 
 same-length : tie.Need-same-length Inv-loop μ-loop
 same-length c = search needs

@@ -10,7 +10,6 @@ use Rattle.dshot_bank.proofs.SendLaws.{two}
 use Prim.Native.Nat.{ℕ}
 use mathlib.Core.List.{List}
 use mathlib.Core.Option.{some}
-use Rattle.dshot_bank_spec.specs.Commands.{NextFrame}
 use borrow.Author.Needs.{needs}
 use Rattle.dshot_bank.proofs.send.next_of.Statement.{statement}
 use Rattle.dshot_bank.proofs.send.next_of.Tie as tie

@@ -1,6 +1,6 @@
 -- `dshot_bank::service::lengths_fit` meets its contract.
 -- Assumes nothing.
-use mathlib.Core.Path.{_∙_, refl, sym, ap}
+use mathlib.Core.Path.{_∙_, refl, sym}
 use Rattle.dshot_bank_spec.proofs.LaneLaws.{on, off}
 use borrow.Author.Tests.{not-true, not-false}
 use Rattle.dshot_bank.specs.Serves.{lengthsFit}
