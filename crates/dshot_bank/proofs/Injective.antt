@@ -50,7 +50,7 @@ use Rattle.dshot_bank.specs.declared.interrupt.DshotInterruptEvent.the-v
 use Rattle.dshot_bank.specs.declared.interrupt.Interrupt.{Interrupt}
 use Rattle.dshot_bank.specs.declared.interrupt.Interrupt.the-variants as Interrupts
 use Rattle.dshot_bank.specs.Answers.{enabledAnswer, throttledAnswer, specialAnswer, requestedAnswer}
-use Rattle.dshot_bank.specs.Orders.{held, dutiesIn, ordersOf, Just}
+use Rattle.dshot_bank.specs.Orders.{ordersIn, Just}
 use Rattle.dshot_bank.specs.Serves.{serviceAnswer}
 use Rattle.dshot_bank.specs.Interrupts.{interruptAnswer}
 use Rattle.dshot_bank.specs.States.{motorOf, choiceOf, leaseOf, commandSequenceOf, coreOf, laneReplyOf, bankOf}
@@ -229,20 +229,6 @@ request-back (Requests.Refused RequestError.Busy) = refl
 pub requestedAnswer-injective : (a b : Request) → requestedAnswer a ≡ requestedAnswer b → a ≡ b
 requestedAnswer-injective a b e = injective (λ (x : Request). numberOf (requestedAnswer x)) requestBack request-back a b (ap numberOf e)
 
--- the orders of an answer
-ordersIn : Answer → List Order
-ordersIn done = []
-ordersIn (refused number) = []
-ordersIn (motor-sent m) = []
-ordersIn (serviced e o) = o
-ordersIn (interrupted e o) = o
-ordersIn (replied r) = []
-ordersIn (flag b) = []
-ordersIn (counts c) = []
-ordersIn (values v) = []
-ordersIn (reply-counts r) = []
-ordersIn (slots l) = []
-
 serviceEventBack : ServiceEvent → DshotServiceEvent
 serviceEventBack frame-started = ServiceEvents.FrameStarted
 serviceEventBack busy = ServiceEvents.Busy
@@ -280,7 +266,6 @@ serviceAnswer-injective a b l m e = sym (service-back a l) ∙ ap serviceBack e 
 
 -- an event tells its orders
 pub service-orders : (e f : DshotServiceEvent) (l m : List Order) → serviceAnswer (Services.Event e) l ≡ serviceAnswer (Services.Event f) m → l ≡ m
-unfolding ordersIn
 service-orders e f l m h = ap ordersIn h
 
 interruptBack : Answer → Interrupt
@@ -307,9 +292,8 @@ pub interruptAnswer-injective : (a b : Interrupt) (l m : List Order) → interru
 interruptAnswer-injective a b l m e = sym (interrupt-back a l) ∙ ap interruptBack e ∙ interrupt-back b m
 
 pub interrupt-orders : (e f : DshotInterruptEvent) (l m : List Order) → interruptAnswer (Interrupts.Event e) l ≡ interruptAnswer (Interrupts.Event f) m → l ≡ m
-unfolding ordersIn
 interrupt-orders e f l m h = ap ordersIn h
 
--- orders determine the array that holds just them, and the first duties beside it
-pub orders-determine : (o p : Orders) (d e : List ℕ) → Just o d → Just p e → ordersOf o d ≡ ordersOf p e → (o ≡ p) × (d ≡ e)
-orders-determine o p d e h k q = (h .array ∙ ap held q ∙ sym (k .array), h .duties ∙ ap dutiesIn q ∙ sym (k .duties))
+-- an answer determines the array that holds just its orders, and the first duties beside it
+pub orders-determine : (o p : Orders) (d e : List ℕ) (a : Answer) → Just o d a → Just p e a → (o ≡ p) × (d ≡ e)
+orders-determine o p d e a h k = (h .array ∙ sym (k .array), h .duties ∙ sym (k .duties))

@@ -104,8 +104,9 @@ pub by-latched : {r : Handled} {e : DshotInterruptEvent} {o : Orders} {d : State
 by-latched l h p t = answered (ap interruptEventOf (h .0)) (h .1 .0 l p) (h .1 .1) t
 
 -- nothing stands in the array but its orders
-pub just-so : {r : Handled} {s : Spec.Interrupted} → Interrupts r s → Just (r .orders) (replicate 4 0)
-just-so {r} {s} h = just (r .orders) (replicate 4 0) (s .orders) (h .orders) (h .duties) (h .whole)
+pub just-so : {r : Handled} {s : Spec.Interrupted} → Interrupts r s
+    → Just (r .orders) (replicate 4 0) (interrupted (interruptEventOf (r .event)) (ordersOf (r .orders) (replicate 4 0)))
+just-so {r} {s} h = just (r .orders) (replicate 4 0) (s .orders) _ (h .orders) (h .duties) (back (r .orders) (replicate 4 0) (s .orders) (h .orders) (h .duties) (h .whole))
 
 -- ---- the call
 

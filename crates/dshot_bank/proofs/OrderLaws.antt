@@ -10,9 +10,10 @@ use Rattle.dshot_spec.specs.Tabulate.{tabulate}
 use Rattle.dshot_spec.proofs.Tabulated.{tabulate-more}
 use Rattle.dshot_bank_spec.specs.Order.{exchange-buffer, start-dma, force-outputs-low, pause-and-clear, latchOrders, startOrders, refusedOrders}
 use Rattle.dshot_bank_spec.specs.Order as Spec
+use Rattle.dshot_bank_spec.specs.Calls.{Answer}
 use Rattle.dshot_bank.specs.declared.orders.Order.{Order}
 use Rattle.dshot_bank.specs.declared.orders.Orders.{Orders}
-use Rattle.dshot_bank.specs.Orders.{entry, noOrder, held, dutiesIn, orderOf, ordersFrom, ordersOf, Just, Whole}
+use Rattle.dshot_bank.specs.Orders.{entry, noOrder, held, dutiesIn, orderOf, ordersFrom, ordersOf, ordersIn, Just, Whole}
 
 -- ---- one more
 
@@ -81,9 +82,9 @@ whole l k = ap (ordersFrom (dutiesIn l)) (take-at (map entry l) (replicate (9 - 
 pub back : (o : Orders) (d : List ℕ) (l : List Spec.Order) → o ≡ held l → d ≡ dutiesIn l → Whole l → ordersOf o d ≡ l
 back o d l p q w = (λ j. ordersOf (p j) (q j)) ∙ w
 
--- and nothing stands beside it
-pub just : (o : Orders) (d : List ℕ) (l : List Spec.Order) → o ≡ held l → d ≡ dutiesIn l → Whole l → Just o d
-just o d l p q w = let e = sym (back o d l p q w) in record { array = p ∙ ap held e; duties = q ∙ ap dutiesIn e }
+-- and nothing stands beside it, where these are the orders of the answer
+pub just : (o : Orders) (d : List ℕ) (l : List Spec.Order) (a : Answer) → o ≡ held l → d ≡ dutiesIn l → ordersIn a ≡ l → Just o d a
+just o d l a p q e = record { array = p ∙ ap held (sym e); duties = q ∙ ap dutiesIn (sym e) }
 
 -- ---- the first duties of a list
 

@@ -15,9 +15,7 @@ use Rattle.dshot_spec.specs.Tabulate.{tabulate}
 use Rattle.dshot_spec.proofs.Tabulated.{length-tabulate, getD-tabulate}
 use Rattle.dshot_bank_spec.specs.Lanes.{if_then_else_}
 use Rattle.dshot_bank_spec.specs.Refusals.{noSuchMotor}
-use Rattle.dshot_bank_spec.specs.Calls.{State, Stepped, sending, act, buffersFit, lengthRefusal, portRefusal, refuseOr, step}
-use Rattle.dshot_bank.specs.Serves.{lengthsFit}
-use Rattle.dshot_bank.specs.Views.{twoFit}
+use Rattle.dshot_bank_spec.specs.Calls.{State, Stepped, sending, act, slotsFit, serviceFits, buffersFit, lengthRefusal, portRefusal, refuseOr, step}
 use Rattle.dshot_bank.specs.declared.LaneReply.{LaneReply}
 use Rattle.dshot_bank.specs.declared.replies.TakenReply.{TakenReply}
 
@@ -66,15 +64,13 @@ fit-both true u e = (refl, e)
 fit-both false u e = let z : _≡_ {A = ℕ} 0 1 = cc in absurd (omega arith)
 
 -- the lengths of two buffers that fit
-pub two-fit : (first second : ℕ) → twoFit first second ≡ true → (first ≡ 64) × (second ≡ 64)
-unfolding twoFit
+pub two-fit : (first second : ℕ) → slotsFit 4 first second ≡ true → (first ≡ 64) × (second ≡ 64)
 two-fit first second e = let p = fit-both (eqb first 64) (eqb second 64) e in (eqb-true first 64 (p .0), eqb-true second 64 (p .1))
 
 -- and of the captures with them
-pub three-fit : (first second captures : ℕ) → lengthsFit first second captures ≡ true → (first ≡ 64) × (second ≡ 64) × (captures ≡ 640)
-unfolding lengthsFit
+pub three-fit : (first second captures : ℕ) → serviceFits 4 first second captures ≡ true → (first ≡ 64) × (second ≡ 64) × (captures ≡ 640)
 three-fit first second captures e =
-    let p = fit-both (twoFit first second) (eqb captures 640) e in
+    let p = fit-both (slotsFit 4 first second) (eqb captures 640) e in
     let q = two-fit first second (p .0) in
     (q .0, q .1, eqb-true captures 640 (p .1))
 

@@ -6,6 +6,7 @@ use mathlib.Core.List.{List, [], _∷_, _++_, map}
 use lib.ListN.{length, take, replicate}
 use Rattle.dshot_bank_spec.specs.Order.{exchange-buffer, start-dma, start-frame, stop-frame, force-outputs-low, pause-and-clear, begin-receive, end-receive}
 use Rattle.dshot_bank_spec.specs.Order as Spec
+use Rattle.dshot_bank_spec.specs.Calls.{Answer, done, refused, motor-sent, serviced, interrupted, replied, flag, counts, values, reply-counts, slots}
 use Rattle.dshot_bank.specs.declared.orders.OrderKind.{OrderKind}
 use Rattle.dshot_bank.specs.declared.orders.OrderKind.the-variants.{None, ExchangeBuffer, StartDma, StartFrame, StopFrame, ForceOutputsLow, PauseAndClear, BeginReceive, EndReceive}
 use Rattle.dshot_bank.specs.declared.orders.Order.{Order}
@@ -67,10 +68,24 @@ ordersFrom d (o ∷ os) = orderOf d (o .kind) (o .motor) ++ ordersFrom d os
 unfoldable pub ordersOf : Orders → List ℕ → List Spec.Order
 ordersOf o d = ordersFrom d (take (o .count) (o .list))
 
--- nothing stands in the array and beside it but the orders
-pub record Just (o : Orders) (d : List ℕ) : Type 0 where
-  pub array : o ≡ held (ordersOf o d)
-  pub duties : d ≡ dutiesIn (ordersOf o d)
+-- the orders of an answer; a refusal has none
+abbrev pub ordersIn : Answer → List Spec.Order
+ordersIn done = []
+ordersIn (refused number) = []
+ordersIn (motor-sent m) = []
+ordersIn (serviced e o) = o
+ordersIn (interrupted e o) = o
+ordersIn (replied r) = []
+ordersIn (flag b) = []
+ordersIn (counts c) = []
+ordersIn (values v) = []
+ordersIn (reply-counts r) = []
+ordersIn (slots l) = []
+
+-- nothing stands in the array and beside it but the orders of an answer
+pub record Just (o : Orders) (d : List ℕ) (a : Answer) : Type 0 where
+  pub array : o ≡ held (ordersIn a)
+  pub duties : d ≡ dutiesIn (ordersIn a)
 
 -- a list of orders that the array and the first duties can hold
 abbrev pub Whole : List Spec.Order → Type 0

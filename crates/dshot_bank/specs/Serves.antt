@@ -1,12 +1,8 @@
 -- What the service of the code returns, in the terms of the definitions.
 -- Assumes nothing.
-use Prim.Native.Nat.{ℕ, _*_}
 use mathlib.Core.Path.{_≡_}
-use mathlib.Core.Bool.{Bool, false}
 use mathlib.Core.List.{List, []}
-use lib.Dec.{eqb}
 use Rattle.dshot_reply_spec.specs.Answer.{wrongLength}
-use Rattle.dshot_bank_spec.specs.Lanes.{if_then_else_}
 use Rattle.dshot_bank_spec.specs.State.{Buffers}
 use Rattle.dshot_bank_spec.specs.Order.{Order}
 use Rattle.dshot_bank_spec.specs.Service.{ServiceEvent, frame-started, busy, lease-expired, faulted}
@@ -19,7 +15,6 @@ use Rattle.dshot_bank.specs.declared.service.Service.the-variants.{Event
 use Rattle.dshot_bank.specs.declared.service.Served.{Served}
 use Rattle.dshot_bank.specs.declared.service.Skipped.{Skipped}
 use Rattle.dshot_bank.specs.States.{coreOf, bankOf}
-use Rattle.dshot_bank.specs.Views.{twoFit}
 use Rattle.dshot_bank.specs.Orders.{held, dutiesIn, Whole}
 
 abbrev pub serviceEventOf : DshotServiceEvent → ServiceEvent
@@ -32,10 +27,6 @@ serviceEventOf Faulted = faulted
 abbrev pub serviceAnswer : Service → List Order → Answer
 serviceAnswer (Event e) orders = serviced (serviceEventOf e) orders
 serviceAnswer WrongLength orders = refused wrongLength
-
--- the lengths of the two sequence buffers and of the captures
-unfoldable pub lengthsFit : ℕ → ℕ → ℕ → Bool
-lengthsFit first second captures = if twoFit first second then eqb captures (160 * 4) else false
 
 -- the same event, orders and core
 pub record Skips (r : Skipped) (s : Spec.Skipped) : Type 0 where

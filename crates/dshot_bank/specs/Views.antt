@@ -1,19 +1,12 @@
 -- What the view of the code returns, in the terms of the definitions.
 -- Assumes nothing.
-use Prim.Native.Nat.{ℕ, _*_}
-use mathlib.Core.Bool.{Bool, false}
+use Prim.Native.Nat.{ℕ}
 use mathlib.Core.List.{List, []}
-use lib.Dec.{eqb}
 use Rattle.dshot_reply_spec.specs.Answer.{wrongLength}
-use Rattle.dshot_bank_spec.specs.Lanes.{if_then_else_}
 use Rattle.dshot_bank_spec.specs.Refusals.{noSuchMotor}
 use Rattle.dshot_bank_spec.specs.Calls.{Answer, done, refused, motor-sent, serviced, interrupted, replied, flag, counts, values, reply-counts, slots}
 use Rattle.dshot_bank.specs.declared.looks.View.{View}
 use Rattle.dshot_bank.specs.declared.looks.View.the-variants.{Shown, WrongLength, NoSuchMotor}
-
--- the lengths of the two sequence buffers
-unfoldable pub twoFit : ℕ → ℕ → Bool
-twoFit first second = if eqb first (16 * 4) then eqb second (16 * 4) else false
 
 -- a part that is shown, or document 01's number
 abbrev pub viewAnswer : View → List ℕ → Answer

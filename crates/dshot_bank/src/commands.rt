@@ -17,6 +17,7 @@ use dshot::DshotCommandSequence;
 use dshot::MotorValues;
 use dshot::throttles_to_dshot;
 ghost use mathlib.Core.Path.{_≡_};
+ghost use mathlib.Core.Option.{some};
 ghost use lib.Dec.{ltb};
 ghost use Rattle.dshot.specs.Answers.{runOf};
 ghost use Rattle.dshot_bank_spec.specs.Lanes.{any, isSome};
@@ -145,6 +146,19 @@ impl MotorChoice {
 }
 
 impl CommandRun {
+    pub(crate) fn of(motor: DshotMotor, sequence: DshotCommandSequence) -> Self
+        ensures { λ r. ⌜ commandSequenceOf r ≡ some (record { motor = motorOf motor; sequence = runOf sequence }) ⌝ }
+    {
+        let commands = sequence.commands;
+        CommandRun::Some {
+            motor,
+            first: commands[0],
+            second: commands[1],
+            index: sequence.index,
+            repeats_left: sequence.repeats_left,
+        }
+    }
+
     pub(crate) fn is_some(self) -> bool
         ensures { λ r. ⌜ r ≡ isSome (commandSequenceOf self) ⌝ }
     {
@@ -220,7 +234,7 @@ impl Core {
 }
 
 impl DshotBank {
-    // Switches to bidirectional DShot, before the first frame. Refused if a lane cannot receive replies.
+    // Switches to bidirectional DShot: meant for before the first frame, and not refused later. Refused if a lane cannot receive replies.
     pub fn enable_bidirectional(mut self, receives_replies: bool) -> Enabled
         ensures { λ r. ⌜ ((b : Buffers) → stepped (enabledAnswer (r .answer)) (r .bank) b ≡ step 4 (stateOf self b) (Call.enable-bidirectional «receives_replies»)) ⌝ }
     {
@@ -324,15 +338,7 @@ impl DshotBank {
                 bank: self,
             };
         }
-        let commands = sequence.commands;
-        let run = CommandRun::Some {
-            motor,
-            first: commands[0],
-            second: commands[1],
-            index: sequence.index,
-            repeats_left: sequence.repeats_left,
-        };
-        let queued = requests.running(run);
+        let queued = requests.running(CommandRun::of(motor, sequence));
         let mut core = self.core;
         core.requests = queued;
         self.core = core;
@@ -342,7 +348,7 @@ impl DshotBank {
         }
     }
 
-    // Requests legacy UART telemetry from exactly one motor in the next successfully started DShot frame.
+    // Requests legacy UART telemetry from exactly one motor in the next ordinary frame that starts; one that sends a special command leaves it.
     pub fn request_telemetry(self, motor: usize) -> Requested
         ensures { λ r. ⌜ ((b : Buffers) → stepped (requestedAnswer (r .answer)) (r .bank) b ≡ step 4 (stateOf self b) (Call.request-telemetry motor)) ⌝ }
     {

@@ -7,6 +7,7 @@ use crate::Core;
 use crate::DshotBank;
 use crate::DshotMotor;
 use crate::DshotStats;
+use crate::Frame;
 use crate::LANES;
 use crate::MotorChoice;
 use crate::orders::OrderKind;
@@ -21,10 +22,12 @@ ghost use lib.ListN.{replicate};
 ghost use Rattle.dshot_bank_spec.specs.State.{Buffers};
 ghost use Rattle.dshot_bank_spec.specs.Order.{Order, latchOrders};
 ghost use Rattle.dshot_bank_spec.specs.Send.{latchFault};
-ghost use Rattle.dshot_bank_spec.specs.Interrupt.{countCompletion, laneDone, frameDone, windowOpened, windowClosed, afterLane};
+ghost use Rattle.dshot_bank_spec.specs.Interrupt.{countCompletion, laneDone, frameDone, windowOpened, windowClosed, opensWindow, afterLane};
 ghost use Rattle.dshot_bank_spec.specs.Interrupt as Spec;
+ghost use Rattle.dshot_bank_spec.specs.Replies.{wrappingAdd};
+ghost use Rattle.dshot_bank_spec.specs.With.{withFramesCompleted};
 ghost use Rattle.dshot_bank_spec.specs.Calls.{step, on-dma-interrupt};
-ghost use Rattle.dshot_bank.specs.States.{motorOf, statsOf, coreOf, stateOf, stepped};
+ghost use Rattle.dshot_bank.specs.States.{motorOf, frameOf, statsOf, coreOf, stateOf, stepped};
 ghost use Rattle.dshot_bank.specs.Orders.{held, ordersOf, Just};
 ghost use Rattle.dshot_bank.specs.Interrupts.{interruptAnswer, Interrupts, Begins};
 
@@ -57,18 +60,37 @@ pub(crate) struct Handled {
 }
 
 impl DshotStats {
+    fn count_frame_completed(mut self) -> Self
+        ensures { λ r. ⌜ statsOf r ≡ withFramesCompleted (wrappingAdd (self .«frames_completed»)) (statsOf self) ⌝ }
+    {
+        self.frames_completed = wrapping_add(self.frames_completed);
+        self
+    }
+
     fn count_completion(mut self, motor: DshotMotor) -> Self
         ensures { λ r. ⌜ statsOf r ≡ countCompletion (motorOf motor) (statsOf self) ⌝ }
     {
         let old = self.lane_completions;
         let done = motor.index();
         let mut counts = [0; LANES];
-        // A place that is known before the run, in each turn: an array in a register.
+        // Lane by lane, and not at the lane alone: an array whose every place is known stays in registers.
         for lane in 0..LANES {
             counts[lane] = add_if(lane == done, old[lane]);
         }
         self.lane_completions = counts;
         self
+    }
+}
+
+impl Frame {
+    // A bidirectional frame set has transmitted.
+    fn opens_window(self) -> bool
+        ensures { λ r. ⌜ r ≡ opensWindow (frameOf self) ⌝ }
+    {
+        if self.bidirectional {
+            return !self.receiving;
+        }
+        false
     }
 }
 
@@ -90,8 +112,7 @@ impl Core {
         ensures { λ r. ⌜ coreOf r ≡ frameDone (coreOf self) ⌝ }
     {
         self.frame.busy = false;
-        let mut stats = self.stats;
-        stats.frames_completed = wrapping_add(stats.frames_completed);
+        let stats = self.stats.count_frame_completed();
         self.stats = stats;
         self
     }
@@ -141,18 +162,18 @@ impl Core {
         if self.frame.completion_mask != ALL_MOTORS_COMPLETE {
             return self.handled(DshotInterruptEvent::Completed, paused);
         }
-        if self.frame.receiving {
-            let orders = paused.push(OrderKind::EndReceive, 0);
-            if turned_back {
-                return self.window_closed()
+        if self.frame.opens_window() {
+            let orders = paused.push(OrderKind::BeginReceive, 0);
+            if turned {
+                return self.window_opened()
                     .handled(DshotInterruptEvent::Completed, orders);
             }
             return self.latched(false, DshotInterruptEvent::Faulted, orders);
         }
-        if self.frame.bidirectional {
-            let orders = paused.push(OrderKind::BeginReceive, 0);
-            if turned {
-                return self.window_opened()
+        if self.frame.receiving {
+            let orders = paused.push(OrderKind::EndReceive, 0);
+            if turned_back {
+                return self.window_closed()
                     .handled(DshotInterruptEvent::Completed, orders);
             }
             return self.latched(false, DshotInterruptEvent::Faulted, orders);
@@ -204,7 +225,7 @@ impl DshotBank {
         turned_back: bool,
     ) -> Interrupted
         ensures { λ r. ⌜ ((b : Buffers) → stepped (interruptAnswer (r .answer) (ordersOf (r .orders) (replicate 4 0))) (r .bank) b ≡ step 4 (stateOf self b) (on-dma-interrupt motor «transfer_complete» «dma_error» turned «turned_back»)) ⌝ }
-        ensures { λ r. ⌜ Just (r .orders) (replicate 4 0) ⌝ }
+        ensures { λ r. ⌜ Just (r .orders) (replicate 4 0) (interruptAnswer (r .answer) (ordersOf (r .orders) (replicate 4 0))) ⌝ }
     {
         match DshotMotor::from_index(motor) {
             MotorChoice::Some(lane) => {

@@ -151,7 +151,7 @@ pub struct Demand {
 }
 
 // Special-command frames still to send, for one motor: the fields of its `DshotCommandSequence`, since an enum holds no array. Sent only while
-// every throttle is zero; any throttle demand cancels it.
+// every throttle is zero; a throttle demand that is in force when a frame starts cancels it.
 pub enum CommandRun {
     None,
     Some {

@@ -11,9 +11,9 @@ use dshot::MotorValues;
 ghost use mathlib.Core.Path.{_≡_};
 ghost use Rattle.dshot_bank_spec.specs.State.{Buffers};
 ghost use Rattle.dshot_bank_spec.specs.Calls as Call;
-ghost use Rattle.dshot_bank_spec.specs.Calls.{Stepped, step, flag, counts, values, sequenceSent};
+ghost use Rattle.dshot_bank_spec.specs.Calls.{Stepped, slotsFit, step, flag, counts, values, sequenceSent};
 ghost use Rattle.dshot_bank.specs.States.{statsOf, coreOf, stateOf, stepped};
-ghost use Rattle.dshot_bank.specs.Views.{twoFit, viewAnswer, shown};
+ghost use Rattle.dshot_bank.specs.Views.{viewAnswer, shown};
 
 // What a view answers: a part of a buffer, or why there is none.
 pub enum View {
@@ -23,7 +23,7 @@ pub enum View {
 }
 
 pub(crate) fn buffers_fit(first: usize, second: usize) -> bool
-    ensures { λ r. ⌜ r ≡ twoFit first second ⌝ }
+    ensures { λ r. ⌜ r ≡ slotsFit 4 first second ⌝ }
 {
     if first != COMPARE_DMA_SLOTS * LANES {
         return false;

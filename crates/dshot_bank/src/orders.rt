@@ -39,7 +39,8 @@ pub struct Order {
     pub motor: u8,
 }
 
-// The most orders that a call gives: an exchange for each lane, and then a start of each, or a pause of each and one more.
+// The most orders that a call gives: an exchange for each lane, then one for each lane and one more (every stream started and the frame, or the
+// outputs low and every stream paused).
 pub const MOST_ORDERS: usize = 2 * LANES + 1;
 
 // The first `count` of the list; the rest are `None`.

@@ -36,7 +36,7 @@ ghost use Rattle.dshot_spec.specs.Sequence.{sequenceOf};
 ghost use Rattle.dshot.specs.Answers.{kindOf, laneOf, words, timingOf, commandOf, runOf};
 ghost use Rattle.dshot_bank_spec.specs.Lanes.{position};
 ghost use Rattle.dshot_bank_spec.specs.State.{Buffers};
-ghost use Rattle.dshot_bank_spec.specs.With.{withFrame, withInSecond};
+ghost use Rattle.dshot_bank_spec.specs.With.{withFramesStarted, withFrame, withInSecond};
 ghost use Rattle.dshot_bank_spec.specs.Commands.{nextOf, nextOfRun, nextCommandFrame};
 ghost use Rattle.dshot_bank_spec.specs.Replies.{wrappingAdd};
 ghost use Rattle.dshot_bank_spec.specs.Send.{countFault, latchFault, frameSet, kindSent, firstDuties, writeSpare, encodeLanes, turnMarks, carry, exchangeRefused, frameStarted, exchangeBuffers, sendRequested, sentBuffers, asLane};
@@ -62,7 +62,7 @@ pub(crate) struct FrameSet {
     pub telemetry_request: MotorChoice,
 }
 
-// Whether a frame set started, with the orders and the first duties.
+// Whether a frame set started, with the orders, the first duties and the core after it.
 pub(crate) struct Sent {
     pub started: bool,
     pub orders: Orders,
@@ -79,6 +79,13 @@ pub(crate) fn add_if(counted: bool, count: u32) -> u32
 }
 
 impl DshotStats {
+    fn count_frame_started(mut self) -> Self
+        ensures { λ r. ⌜ statsOf r ≡ withFramesStarted (wrappingAdd (self .«frames_started»)) (statsOf self) ⌝ }
+    {
+        self.frames_started = wrapping_add(self.frames_started);
+        self
+    }
+
     fn count_fault(mut self, faulted: bool, spurious: bool) -> Self
         ensures { λ r. ⌜ statsOf r ≡ countFault faulted spurious (statsOf self) ⌝ }
     {
@@ -148,14 +155,7 @@ fn next_of(motor: DshotMotor, value: CommandValue, sequence: DshotCommandSequenc
 {
     match value {
         CommandValue::Value(command) => {
-            let commands = sequence.commands;
-            let left = CommandRun::Some {
-                motor,
-                first: commands[0],
-                second: commands[1],
-                index: sequence.index,
-                repeats_left: sequence.repeats_left,
-            };
+            let left = CommandRun::of(motor, sequence);
             NextFrame {
                 command: FrameCommand::Some(motor, command),
                 left,
@@ -239,7 +239,8 @@ impl Core {
 
 // ---- sequences
 
-// A lane's part of a spare. The part has the right length, so that the sequence is written.
+// Writes the sequence of a packet into a lane's part of a spare, and returns its first duty. The part has the right length, so that nothing is
+// refused.
 fn encode(packet: DshotPacket, timing: DshotTiming, part: &mut [u16]) -> u16
     requires { ⌜ length (now part) ≡ 16 ⌝ }
     ensures { λ r. ⌜ r ≡ sequenceOf (timingOf timing) (packet .0) .first ⌝ }
@@ -377,8 +378,7 @@ impl Core {
         frame.completion_mask = 0;
         frame.busy = true;
         core.frame = frame;
-        let mut stats = core.stats;
-        stats.frames_started = wrapping_add(stats.frames_started);
+        let stats = core.stats.count_frame_started();
         core.stats = stats;
         let requests = core.requests.carrying(request);
         core.requests = requests;

@@ -8,6 +8,7 @@ use crate::Core;
 use crate::DSHOT_FRAME_TIMEOUT_MS;
 use crate::Demand;
 use crate::DshotBank;
+use crate::DshotStats;
 use crate::LANES;
 use crate::LaneReply;
 use crate::Lease;
@@ -26,10 +27,12 @@ ghost use lib.ListN.{length};
 ghost use Rattle.dshot_bank_spec.specs.State.{Buffers};
 ghost use Rattle.dshot_bank_spec.specs.Service.{demandExpired, expireLease, serviceBusy, repliesRead, sentEvent};
 ghost use Rattle.dshot_bank_spec.specs.Service as Spec;
-ghost use Rattle.dshot_bank_spec.specs.Calls.{Stepped, step, service-call};
-ghost use Rattle.dshot_bank.specs.States.{demandOf, coreOf, repliesOf, bankOf};
+ghost use Rattle.dshot_bank_spec.specs.Replies.{wrappingAdd};
+ghost use Rattle.dshot_bank_spec.specs.With.{withBusySkips, withLeaseExpiries, withFrameTimeouts};
+ghost use Rattle.dshot_bank_spec.specs.Calls.{Stepped, serviceFits, step, service-call};
+ghost use Rattle.dshot_bank.specs.States.{demandOf, statsOf, coreOf, repliesOf, bankOf};
 ghost use Rattle.dshot_bank.specs.Orders.{ordersOf, Just};
-ghost use Rattle.dshot_bank.specs.Serves.{serviceEventOf, serviceAnswer, lengthsFit, Skips, Serves};
+ghost use Rattle.dshot_bank.specs.Serves.{serviceEventOf, serviceAnswer, Skips, Serves};
 
 pub enum DshotServiceEvent {
     FrameStarted,
@@ -72,6 +75,29 @@ impl Demand {
     }
 }
 
+impl DshotStats {
+    fn count_lease_expiry(mut self) -> Self
+        ensures { λ r. ⌜ statsOf r ≡ withLeaseExpiries (wrappingAdd (self .«lease_expiries»)) (statsOf self) ⌝ }
+    {
+        self.lease_expiries = wrapping_add(self.lease_expiries);
+        self
+    }
+
+    fn count_busy_skip(mut self) -> Self
+        ensures { λ r. ⌜ statsOf r ≡ withBusySkips (wrappingAdd (self .«busy_skips»)) (statsOf self) ⌝ }
+    {
+        self.busy_skips = wrapping_add(self.busy_skips);
+        self
+    }
+
+    fn count_timeout(mut self) -> Self
+        ensures { λ r. ⌜ statsOf r ≡ withFrameTimeouts (wrappingAdd (self .«frame_timeouts»)) (statsOf self) ⌝ }
+    {
+        self.frame_timeouts = wrapping_add(self.frame_timeouts);
+        self
+    }
+}
+
 impl Core {
     fn lease_ended(self, expired: bool) -> Self
         ensures { λ r. ⌜ coreOf r ≡ expireLease 4 expired (coreOf self) ⌝ }
@@ -80,8 +106,7 @@ impl Core {
             return self;
         }
         let mut core = self.stopped();
-        let mut stats = core.stats;
-        stats.lease_expiries = wrapping_add(stats.lease_expiries);
+        let stats = core.stats.count_lease_expiry();
         core.stats = stats;
         core
     }
@@ -89,8 +114,7 @@ impl Core {
     fn skip_counted(mut self) -> Self
         ensures { λ r. ⌜ coreOf r ≡ Spec.countBusySkip (coreOf self) ⌝ }
     {
-        let mut stats = self.stats;
-        stats.busy_skips = wrapping_add(stats.busy_skips);
+        let stats = self.stats.count_busy_skip();
         self.stats = stats;
         self
     }
@@ -98,8 +122,7 @@ impl Core {
     fn timeout_counted(mut self) -> Self
         ensures { λ r. ⌜ coreOf r ≡ Spec.countTimeout (coreOf self) ⌝ }
     {
-        let mut stats = self.stats;
-        stats.frame_timeouts = wrapping_add(stats.frame_timeouts);
+        let stats = self.stats.count_timeout();
         self.stats = stats;
         self
     }
@@ -171,7 +194,7 @@ fn sent_event(started: bool, lease_expired: bool) -> DshotServiceEvent
 }
 
 fn lengths_fit(first: usize, second: usize, captures: usize) -> bool
-    ensures { λ r. ⌜ r ≡ lengthsFit first second captures ⌝ }
+    ensures { λ r. ⌜ r ≡ serviceFits 4 first second captures ⌝ }
 {
     if !buffers_fit(first, second) {
         return false;
@@ -253,7 +276,7 @@ impl DshotBank {
         captures: &[u16],
     ) -> Served
         ensures { λ r. ⌜ _≡_ {A = Stepped} (record { answer = serviceAnswer (r .answer) (ordersOf (r .orders) (r .«first_duties»)); state = record { bank = bankOf (r .bank); buffers = record { first = now (first .exit); second = now (second .exit) } } }) (step 4 (record { bank = bankOf self; buffers = record { first = now (first .entry); second = now (second .entry) } }) (service-call «now_ms» taken present masks (now (captures .entry)))) ⌝ }
-        ensures { λ r. ⌜ Just (r .orders) (r .«first_duties») ⌝ }
+        ensures { λ r. ⌜ Just (r .orders) (r .«first_duties») (serviceAnswer (r .answer) (ordersOf (r .orders) (r .«first_duties»))) ⌝ }
     {
         if !lengths_fit(first.len(), second.len(), captures.len()) {
             return Served {

@@ -9,7 +9,7 @@ use native.Mathlib.Omega.{arith}
 use native.Mathlib.Decide.{decLt}
 use lib.Dec.{eqb}
 use lib.ListN.{getD, set, length, drop, length-take, length-drop}
-use lib.Seq.{getD-set-other, getD-take, getD-drop, ext-getD}
+use lib.Seq.{getD-take, getD-drop, ext-getD}
 use Rattle.dshot_reply_spec.specs.Answer.{pick, given}
 use Rattle.dshot_reply_spec.specs.Answer as Reply
 use Rattle.dshot_bank_spec.specs.State.{Core, LaneReply, Buffers}
@@ -20,6 +20,7 @@ use Rattle.dshot_bank_spec.specs.Service as Service
 use Rattle.dshot_bank_spec.specs.Calls.{Call, enable-bidirectional, command-stop, command-throttles, command-special, request-telemetry, cancel-telemetry-request, take-telemetry-request-sent, service-call, on-dma-interrupt, take-replies, is-bidirectional, is-faulted, stats, requested-values, command-pending, reply-stats, sending, lend, done, refused, replied, reply-counts, State, Stepped, told, changed, commanded, servedStep, repliesOf, repliesTaken, act, buffersFit, lengthRefusal, portRefusal, refuseOr, step}
 use Rattle.dshot_bank_spec.specs.Lists.{trace, fresh, hide, hideState, hideReplies, hideTaken, Alike, same, captured, AlikeAll, none-left, one-more}
 use Rattle.dshot_bank_spec.specs.Claims.{Isolated}
+use Rattle.dshot_bank_spec.proofs.Hidden.{hidden-replies}
 use Rattle.dshot_bank_spec.proofs.LaneLaws.{set-tabulate, map-set}
 use Rattle.dshot_bank_spec.proofs.Service.{serviceSend, serviceOpen}
 
@@ -54,14 +55,6 @@ picked : {A B : Type 0} (f : A → B) (b : Bool) (x x′ y y′ : A) → f x ≡
 picked f true x x′ y y′ p q = p
 picked f false x x′ y y′ p q = q
 
--- another lane's old reply is the same
-others : (lane : ℕ) (r r′ : List LaneReply) → hideReplies lane r ≡ hideReplies lane r′
-    → (k : ℕ) → (k ≡ lane → ⊥) → getD r k noReplies ≡ getD r′ k noReplies
-others lane r r′ er k ne =
-    sym (getD-set-other r lane k noReplies noReplies ne)
-    ∙ ap (λ (l : List LaneReply). getD l k noReplies) er
-    ∙ getD-set-other r′ lane k noReplies noReplies ne
-
 -- what a service makes of the lane's captures m and s, or m′ and s′, and of the replies before it, r or r′
 module _ (n lane now : ℕ) (taken p : List Bool) (m m′ s s′ : List ℕ) (r r′ : List LaneReply) (b : Buffers)
     (er : hideReplies lane r ≡ hideReplies lane r′)
@@ -74,7 +67,7 @@ module _ (n lane now : ℕ) (taken p : List Bool) (m m′ s s′ : List ℕ) (r 
   unfolding readReplies decodeReplies
   read-alike true = set-tabulate n lane noReplies _ _
       (λ k ne.
-      let o = others lane r r′ er k ne in
+      let o = hidden-replies lane r r′ er k ne in
       let w = ew k ne in
       let t = em k ne in
       λ j. countReply (readWindow (getD p k false) (w j) (t j)) (o j))

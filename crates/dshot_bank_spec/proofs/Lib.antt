@@ -6,3 +6,4 @@ pub mod Storing
 pub mod Decoding
 pub mod Written
 pub mod SentReads
+pub mod Hidden

@@ -17,11 +17,11 @@ use Rattle.dshot_bank_spec.specs.Commands.{noReplies, commandStop, clear
 use Rattle.dshot_bank_spec.specs.Replies.{countReply, isOk, decodeLane, decodeReplies}
 use Rattle.dshot_bank_spec.specs.Send.{Sent, latchFault, exchangeRefused, exchangeBuffers, frameStarted, sendRequested}
 use Rattle.dshot_bank_spec.specs.Service.{Served, repliesRead, readReplies, serviceCore}
-use Rattle.dshot_bank_spec.specs.Calls.{service-call, State, Stepped, step}
-use Rattle.dshot_bank_spec.specs.Lists.{run, fresh, isRefused}
-use Rattle.dshot_bank_spec.specs.Claims.{reads, before, Stores}
+use Rattle.dshot_bank_spec.specs.Calls.{service-call, State, Stepped, act, lengthRefusal, portRefusal, refuseOr, step}
+use Rattle.dshot_bank_spec.specs.Lists.{run, fresh}
+use Rattle.dshot_bank_spec.specs.Claims.{reads, fits, before, Stores}
 use Rattle.dshot_bank_spec.proofs.LaneLaws.{on, either}
-use Rattle.dshot_bank_spec.proofs.Refusals.{accepted-acts, accepted-run}
+use Rattle.dshot_bank_spec.proofs.Refusals.{accepted-run}
 use Rattle.dshot_bank_spec.proofs.Service.{leasedCore, leased-frame, service-sends}
 
 -- ---- one lane
@@ -94,10 +94,15 @@ module _ (n : ℕ) (s : State) (now : ℕ) (taken present : List Bool) (masks sa
       ≡ pick (reads b) (decodeLane present masks samples (b .bank .replies) lane) (getD (b .bank .replies) lane noReplies))
       × (reads b ≡ true → served .state .bank .core .frame .repliesHeld ≡ true)
 
-  stored-after : isRefused (served .answer) ≡ false → StoredAfter s
+  -- with the right lengths nothing is refused
+  service-acts : fits n s samples ≡ true → served ≡ act n s (service-call now taken present masks samples)
+  unfolding step portRefusal
+  service-acts h = ap (λ (t : Bool). refuseOr s (lengthRefusal t 0) (act n s (service-call now taken present masks samples))) h
+
+  stored-after : fits n s samples ≡ true → StoredAfter s
   stored-after h =
       let c = s .bank .core in
-      let a = accepted-acts n s (service-call now taken present masks samples) h in (
+      let a = service-acts h in (
         λ lane l.
             ap (λ (r : Stepped). getD (r .state .bank .replies) lane noReplies) a
             ∙ ap (λ (r : List LaneReply). getD r lane noReplies) (service-reads n now taken present masks samples (s .bank .replies) (s .buffers) c)
@@ -121,4 +126,4 @@ stores n timing buffers calls now taken present masks samples h =
     after : StoredAfter n (run n start calls) now taken present masks samples (before n timing buffers calls now taken present masks samples)
     after =
         subst (StoredAfter n (run n start calls) now taken present masks samples) (sym (accepted-run n start calls))
-        (stored-after n (run n start calls) now taken present masks samples h)
+        (stored-after n (run n start calls) now taken present masks samples (ap (λ (s : State). fits n s samples) (sym (accepted-run n start calls)) ∙ h))

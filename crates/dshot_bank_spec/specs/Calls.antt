@@ -19,7 +19,7 @@ use Rattle.dshot_bank_spec.specs.Commands.{enableBidirectional, commandS
 use Rattle.dshot_bank_spec.specs.Service.{ServiceEvent, Served, service}
 use Rattle.dshot_bank_spec.specs.Interrupt.{InterruptEvent, Interrupted, onDmaInterrupt}
 
--- a call with its arguments, its clock, the hardware's answers and the captures. The calls from is-bidirectional on only look; the last is no
+-- a call with its arguments, its clock, the hardware's answers and the captures. The calls from is-bidirectional to sending only look; lend is no
 -- call of the bank: between two calls the caller may write the lent buffers, or lend others
 pub data Call : Type 0 where
   enable-bidirectional : (receives : Bool) → Call
@@ -70,7 +70,7 @@ pub record Stepped : Type 0 where
   pub answer : Answer
   pub state : State
 
--- ---- what the source does
+-- ---- what is done where nothing is refused by the port: what the source does, the view, and the caller's own lending
 
 abbrev pub repliesOf : List LaneReply → List (Reply.Answer Reading)
 repliesOf lanes = map (λ (l : LaneReply). l .reply) lanes
@@ -109,7 +109,7 @@ servedStep r = record { answer = serviced (r .event) (r .orders); state = record
 abbrev pub interruptedStep : State → Interrupted → Stepped
 interruptedStep s r = changed s (interrupted (r .event) (r .orders)) (r .core)
 
--- the source's call
+-- a call, of which all but the last two are the source's
 abbrev pub act : ℕ → State → Call → Stepped
 act n s (enable-bidirectional receives) = commanded s (enableBidirectional receives (s .bank .core))
 act n s command-stop = changed s done (commandStop n (s .bank .core))
@@ -132,8 +132,16 @@ act n s (lend buffers) = record { answer = done; state = record { bank = s .bank
 
 -- ---- what only the port refuses: a lent buffer of the wrong length, and then a lane that there is not. The source's types allow neither
 
+-- the lengths of the two sequence buffers
+abbrev pub slotsFit : ℕ → ℕ → ℕ → Bool
+slotsFit n first second = if eqb first (16 * n) then eqb second (16 * n) else false
+
+-- and of the captures
+abbrev pub serviceFits : ℕ → ℕ → ℕ → ℕ → Bool
+serviceFits n first second captures = if slotsFit n first second then eqb captures (160 * n) else false
+
 abbrev pub buffersFit : ℕ → Buffers → Bool
-buffersFit n b = if eqb (length (b .first)) (16 * n) then eqb (length (b .second)) (16 * n) else false
+buffersFit n b = slotsFit n (length (b .first)) (length (b .second))
 
 abbrev pub lengthRefusal : Bool → ℕ → ℕ
 lengthRefusal fit otherwise = if fit then otherwise else wrongLength
@@ -143,7 +151,7 @@ laneRefusal n motor = if ltb motor n then 0 else noSuchMotor
 
 -- the number of the refusal, or 0
 unfoldable pub portRefusal : ℕ → State → Call → ℕ
-portRefusal n s (service-call now taken present masks samples) = lengthRefusal (if buffersFit n (s .buffers) then eqb (length samples) (160 * n) else false) 0
+portRefusal n s (service-call now taken present masks samples) = lengthRefusal (serviceFits n (length (s .buffers .first)) (length (s .buffers .second)) (length samples)) 0
 portRefusal n s (sending motor) = lengthRefusal (buffersFit n (s .buffers)) (laneRefusal n motor)
 portRefusal n s (command-special motor sequence) = laneRefusal n motor
 portRefusal n s (request-telemetry motor) = laneRefusal n motor

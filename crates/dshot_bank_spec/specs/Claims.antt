@@ -5,7 +5,7 @@ use Prim.Native.Nat.{ℕ, _<_}
 use mathlib.Core.Path.{_≡_}
 use mathlib.Core.Bool.{Bool, true, false}
 use mathlib.Core.List.{List, map}
-use lib.ListN.{getD}
+use lib.ListN.{getD, length}
 use Rattle.dshot_reply_spec.specs.Answer.{Rejected}
 use Rattle.dshot_reply_spec.specs.Answer as Reply
 use Rattle.dshot_reply_spec.specs.Runs.{levels}
@@ -19,7 +19,7 @@ use Rattle.dshot_bank_spec.specs.Lanes.{if_then_else_}
 use Rattle.dshot_bank_spec.specs.State.{Buffers}
 use Rattle.dshot_bank_spec.specs.Commands.{noReplies}
 use Rattle.dshot_bank_spec.specs.Replies.{window, readWindow, countReply}
-use Rattle.dshot_bank_spec.specs.Calls.{Call, service-call, State, Stepped, step}
+use Rattle.dshot_bank_spec.specs.Calls.{Call, service-call, State, Stepped, serviceFits, step}
 use Rattle.dshot_bank_spec.specs.Lists.{trace, run, sourceRun, fresh, isRefused, isLook, accepted, acceptedOf, hide, AlikeAll}
 
 -- 1: two lists alike but in one lane's captures give, after each call, the same answer, bank and buffers, with that lane's reply and reply counts
@@ -48,6 +48,10 @@ reads s =
     if s .bank .core .frame .faulted then false else
     if s .bank .core .frame .busy then false else
     s .bank .core .frame .repliesWaiting
+
+-- whether the lent buffers and captures have the right lengths
+abbrev pub fits : ℕ → State → List ℕ → Bool
+fits n s samples = serviceFits n (length (s .buffers .first)) (length (s .buffers .second)) (length samples)
 
 module _ (n : ℕ) (timing : Timing) (buffers : Buffers) (calls : List Call) (now : ℕ) (taken present : List Bool) (masks samples : List ℕ) where
   -- the state before the service that follows some calls, told by the source alone, run over those of the calls that are not refused
@@ -80,15 +84,15 @@ module _ (n : ℕ) (timing : Timing) (buffers : Buffers) (calls : List Call) (no
     pub damaged : (v w′ p : ℕ) → Damaged (replyWord v) w′ p → Renders 3 (levels (getD masks lane 0) (window samples lane)) w′ → Rejected (reply lane)
     pub moved : (v w′ i j : ℕ) → Moved (replyWord v) w′ i j → Renders 3 (levels (getD masks lane 0) (window samples lane)) w′ → MovedEdge v w′ false (reply lane)
 
--- of each service of each list that is not refused
+-- of each service of each list whose lent buffers have the right lengths
 abbrev pub Stores : Type 0
 Stores = (n : ℕ) (timing : Timing) (buffers : Buffers) (calls : List Call) (now : ℕ) (taken present : List Bool) (masks samples : List ℕ)
-    → isRefused (served n timing buffers calls now taken present masks samples .answer) ≡ false
+    → fits n (before n timing buffers calls now taken present masks samples) samples ≡ true
     → Stored n timing buffers calls now taken present masks samples
 
 abbrev pub Decodes : Type 0
 Decodes = (n : ℕ) (timing : Timing) (buffers : Buffers) (calls : List Call) (now : ℕ) (taken present : List Bool) (masks samples : List ℕ) (lane : ℕ)
-    → isRefused (served n timing buffers calls now taken present masks samples .answer) ≡ false
+    → fits n (before n timing buffers calls now taken present masks samples) samples ≡ true
     → reads (before n timing buffers calls now taken present masks samples) ≡ true
     → lane < n → getD present lane false ≡ true
     → Decoded n timing buffers calls now taken present masks samples lane

@@ -24,7 +24,7 @@ use Rattle.dshot_bank_spec.specs.Refusals.{throttleOutOfRange, faulted, 
 abbrev pub noReplies : LaneReply
 noReplies = record { reply = refused noReply; valid = 0; invalid = 0; consecutiveInvalid = 0 }
 
--- which lane's buffer is which is the port's: the first buffer is current for all, the second spare
+-- in the port the first lent buffer holds what each lane is sending, and the second its spare
 unfoldable pub fromLanes : ℕ → Timing → Bank
 fromLanes n timing = record {
   core = record {

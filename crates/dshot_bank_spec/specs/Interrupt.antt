@@ -9,7 +9,7 @@ use lib.Bits.{bitAnd, bitOr}
 use lib.Dec.{eqb}
 use lib.ListN.{getD, set}
 use Rattle.dshot_bank_spec.specs.Lanes.{if_then_else_}
-use Rattle.dshot_bank_spec.specs.State.{Stats, Core}
+use Rattle.dshot_bank_spec.specs.State.{Frame, Stats, Core}
 use Rattle.dshot_bank_spec.specs.With.{withFramesCompleted, withLaneCompletions, withCompletionMask, withBusy, withReceiving, withRepliesWaiting, withFrame, withStats}
 use Rattle.dshot_bank_spec.specs.Order.{Order, stop-frame, pause-and-clear, begin-receive, end-receive, latchOrders}
 use Rattle.dshot_bank_spec.specs.Replies.{wrappingAdd}
@@ -59,6 +59,10 @@ windowOpened c = withFrame (withCompletionMask 0 (withReceiving true (c .frame))
 unfoldable pub windowClosed : Core → Core
 windowClosed c = frameDone (withFrame (withRepliesWaiting true (withReceiving false (c .frame))) c)
 
+-- self.bidirectional && !self.receiving
+abbrev pub opensWindow : Frame → Bool
+opensWindow f = if f .bidirectional then not (f .receiving) else false
+
 -- turned: whether every lane turned to receive; back: whether every lane turned back
 module _ (n motor : ℕ) (complete error turned back : Bool) where
   abbrev pub interrupted : InterruptEvent → List Order → Core → Interrupted
@@ -71,10 +75,10 @@ module _ (n motor : ℕ) (complete error turned back : Bool) where
   unfoldable pub afterLane : Core → Interrupted
   afterLane c =
       if not (eqb (c .frame .completionMask) (allComplete n)) then interrupted completed [] c else
+      if opensWindow (c .frame) then
+      (if turned then interrupted completed (begin-receive ∷ []) (windowOpened c) else latched false faulted (begin-receive ∷ []) c) else
       if c .frame .receiving then
       (if back then interrupted completed (end-receive ∷ []) (windowClosed c) else latched false faulted (end-receive ∷ []) c) else
-      if c .frame .bidirectional then
-      (if turned then interrupted completed (begin-receive ∷ []) (windowOpened c) else latched false faulted (begin-receive ∷ []) c) else
       interrupted completed (stop-frame ∷ []) (frameDone c)
 
   unfoldable pub onDmaInterrupt : Core → Interrupted

@@ -34,7 +34,7 @@ sourceRun n s (c ∷ cs) = sourceRun n (act n s c .state) cs
 
 -- where a list of demand 3 starts: a bank that `from_lanes` made and `enable_bidirectional` turned, and two buffers
 abbrev pub fresh : ℕ → Timing → Buffers → State
-fresh n timing buffers = step n (record { bank = fromLanes n timing; buffers = buffers }) (enable-bidirectional true) .state
+fresh n timing buffers = act n (record { bank = fromLanes n timing; buffers = buffers }) (enable-bidirectional true) .state
 
 -- ---- calls that only look
 

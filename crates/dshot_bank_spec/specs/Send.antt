@@ -93,7 +93,7 @@ encodeLanes n t inSecond packets b = each n (encodeLane t inSecond packets) b
 abbrev pub turnMarks : ℕ → ℕ → List Bool → List Bool
 turnMarks n turned inSecond = tabulate n (λ i. if ltb i turned then not (getD inSecond i false) else getD inSecond i false)
 
--- whether a frame set started, the orders, the bank and the buffers after it
+-- whether a frame set started, the orders, and the core after it
 pub record Sent : Type 0 where
   pub started : Bool
   pub orders : List Order

@@ -1,6 +1,6 @@
 -- `dshot_bank::Core::after_lane` meets its contract: each return is a case of the tests.
 -- Assumes nothing.
-use mathlib.Core.Path.{refl, ap}
+use mathlib.Core.Path.{_∙_, refl, sym, ap}
 use mathlib.Core.Bool.{not}
 use mathlib.Core.List.{[]}
 use borrow.Author.Tests.{eq-eqb, ne-eqb}
@@ -21,11 +21,14 @@ returns c = λ motor begins.
     settled (on _ _ (ap not (ne-eqb _ 15 (c .before .if1 .taken))) refl)
     (by-handled (c .handled .ensures) begins refl (quiet-cons (pause-and-clear motor) [] refl refl quiet-none))
 
+opens-window-requires : tie.Need-opens-window-requires
+opens-window-requires c κs = search needs
+
 push-requires : tie.Need-push-requires
 push-requires c κs = search needs
 
-window-closed-requires : tie.Need-window-closed-requires
-window-closed-requires c κs = search needs
+window-opened-requires : tie.Need-window-opened-requires
+window-opened-requires c κs = search needs
 
 handled-requires-2 : tie.Need-handled-requires-2
 handled-requires-2 c κs = search needs
@@ -35,9 +38,10 @@ unfolding afterLane
 returns-2 c = λ motor begins.
     let d = c .before .before in
     let e = d .before .before in
-    settled (off _ _ (ap not (eq-eqb _ 15 (e .before .if1 .left))) (on _ _ (e .if2 .taken) (on _ _ (d .if3 .taken) refl)))
-    (by-handled (c .handled2 .ensures) (d .before .push .ensures .1 _ end-receive refl begins) (c .before .window-closed .ensures)
-    (quiet-cons (pause-and-clear motor) _ refl refl (quiet-cons end-receive [] refl refl quiet-none)))
+    let opens = sym (e .before .opens-window .ensures) ∙ e .if2 .taken in
+    settled (off _ _ (ap not (eq-eqb _ 15 (e .before .before .if1 .left))) (on _ _ opens (on _ _ (d .if3 .taken) refl)))
+    (by-handled (c .handled2 .ensures) (d .before .push .ensures .1 _ begin-receive refl begins) (c .before .window-opened .ensures)
+    (quiet-cons (pause-and-clear motor) _ refl refl (quiet-cons begin-receive [] refl refl quiet-none)))
 
 latched-requires : tie.Need-latched-requires
 latched-requires c κs = search needs
@@ -47,15 +51,16 @@ unfolding afterLane
 returns-3 c = λ motor begins.
     let d = c .before in
     let e = d .before .before in
-    settled (off _ _ (ap not (eq-eqb _ 15 (e .before .if1 .left))) (on _ _ (e .if2 .taken) (off _ _ (d .if3 .left) refl)))
-    (by-latched _ (c .latched .ensures) (d .before .push .ensures .1 _ end-receive refl begins)
-    (quiet-cons (pause-and-clear motor) _ refl refl (quiet-cons end-receive _ refl refl quiet-latched)))
+    let opens = sym (e .before .opens-window .ensures) ∙ e .if2 .taken in
+    settled (off _ _ (ap not (eq-eqb _ 15 (e .before .before .if1 .left))) (on _ _ opens (off _ _ (d .if3 .left) refl)))
+    (by-latched _ (c .latched .ensures) (d .before .push .ensures .1 _ begin-receive refl begins)
+    (quiet-cons (pause-and-clear motor) _ refl refl (quiet-cons begin-receive _ refl refl quiet-latched)))
 
 push-requires-2 : tie.Need-push-requires-2
 push-requires-2 c κs = search needs
 
-window-opened-requires : tie.Need-window-opened-requires
-window-opened-requires c κs = search needs
+window-closed-requires : tie.Need-window-closed-requires
+window-closed-requires c κs = search needs
 
 handled-requires-3 : tie.Need-handled-requires-3
 handled-requires-3 c κs = search needs
@@ -65,9 +70,10 @@ unfolding afterLane
 returns-4 c = λ motor begins.
     let d = c .before .before in
     let e = d .before .before in
-    settled (off _ _ (ap not (eq-eqb _ 15 (e .before .before .if1 .left))) (off _ _ (e .before .if2 .left) (on _ _ (e .if4 .taken) (on _ _ (d .if5 .taken) refl))))
-    (by-handled (c .handled3 .ensures) (d .before .push2 .ensures .1 _ begin-receive refl begins) (c .before .window-opened .ensures)
-    (quiet-cons (pause-and-clear motor) _ refl refl (quiet-cons begin-receive [] refl refl quiet-none)))
+    let opens = sym (e .before .before .opens-window .ensures) ∙ e .before .if2 .left in
+    settled (off _ _ (ap not (eq-eqb _ 15 (e .before .before .before .if1 .left))) (off _ _ opens (on _ _ (e .if4 .taken) (on _ _ (d .if5 .taken) refl))))
+    (by-handled (c .handled3 .ensures) (d .before .push2 .ensures .1 _ end-receive refl begins) (c .before .window-closed .ensures)
+    (quiet-cons (pause-and-clear motor) _ refl refl (quiet-cons end-receive [] refl refl quiet-none)))
 
 latched-requires-2 : tie.Need-latched-requires-2
 latched-requires-2 c κs = search needs
@@ -77,9 +83,10 @@ unfolding afterLane
 returns-5 c = λ motor begins.
     let d = c .before in
     let e = d .before .before in
-    settled (off _ _ (ap not (eq-eqb _ 15 (e .before .before .if1 .left))) (off _ _ (e .before .if2 .left) (on _ _ (e .if4 .taken) (off _ _ (d .if5 .left) refl))))
-    (by-latched _ (c .latched2 .ensures) (d .before .push2 .ensures .1 _ begin-receive refl begins)
-    (quiet-cons (pause-and-clear motor) _ refl refl (quiet-cons begin-receive _ refl refl quiet-latched)))
+    let opens = sym (e .before .before .opens-window .ensures) ∙ e .before .if2 .left in
+    settled (off _ _ (ap not (eq-eqb _ 15 (e .before .before .before .if1 .left))) (off _ _ opens (on _ _ (e .if4 .taken) (off _ _ (d .if5 .left) refl))))
+    (by-latched _ (c .latched2 .ensures) (d .before .push2 .ensures .1 _ end-receive refl begins)
+    (quiet-cons (pause-and-clear motor) _ refl refl (quiet-cons end-receive _ refl refl quiet-latched)))
 
 push-requires-3 : tie.Need-push-requires-3
 push-requires-3 c κs = search needs
@@ -95,7 +102,8 @@ unfolding afterLane
 returns-6 c = λ motor begins.
     let d = c .before .before in
     let e = d .before in
-    settled (off _ _ (ap not (eq-eqb _ 15 (e .before .before .if1 .left))) (off _ _ (e .before .if2 .left) (off _ _ (e .if4 .left) refl)))
+    let opens = sym (e .before .before .opens-window .ensures) ∙ e .before .if2 .left in
+    settled (off _ _ (ap not (eq-eqb _ 15 (e .before .before .before .if1 .left))) (off _ _ opens (off _ _ (e .if4 .left) refl)))
     (by-handled (c .handled4 .ensures) (d .push3 .ensures .1 _ stop-frame refl begins) (c .before .frame-done .ensures)
     (quiet-cons (pause-and-clear motor) _ refl refl (quiet-cons stop-frame [] refl refl quiet-none)))
 
@@ -105,14 +113,15 @@ after-lane-spec =
     (tie.spec
     handled-requires
     returns
+    opens-window-requires
     push-requires
-    window-closed-requires
+    window-opened-requires
     handled-requires-2
     returns-2
     latched-requires
     returns-3
     push-requires-2
-    window-opened-requires
+    window-closed-requires
     handled-requires-3
     returns-4
     latched-requires-2

@@ -16,8 +16,8 @@ use Rattle.dshot_bank.proofs.Core.frame_started.Tie as tie
 marks-turned-requires : tie.Need-marks-turned-requires
 marks-turned-requires c κs = search needs
 
-wrapping-add-requires : tie.Need-wrapping-add-requires
-wrapping-add-requires c κs = search needs
+count-frame-started-requires : tie.Need-count-frame-started-requires
+count-frame-started-requires c κs = search needs
 
 carrying-requires : tie.Need-carrying-requires
 carrying-requires c κs = search needs
@@ -25,18 +25,18 @@ carrying-requires c κs = search needs
 returns : tie.Need-returns
 unfolding frameStarted
 returns c =
-    let a = c .before .before .before .before .before .args in
-    let m = coreOf (c .before .before .before .before .marks-turned .result) in
+    let a = c .before .before .before .before .args in
+    let m = coreOf (c .before .before .before .marks-turned .result) in
     let e = c .carrying .ensures in
-    (λ j. withStats (withFramesStarted (c .before .wrapping-add .ensures j) (m .stats))
+    (λ j. withStats (c .before .count-frame-started .ensures j)
     (withCommandSequence (commandSequenceOf (e .1 j))
     (withTelemetry (e .0 j) (withFrame (withBusy true (withCompletionMask 0 (withStartedMs (a .now-ms) (m .frame)))) m))))
     ∙ ap
     (λ (k : Spec.Core). withTelemetry (carry (choiceOf (a .request)) (k .telemetry))
     (withStats (withFramesStarted (wrappingAdd (k .stats .framesStarted)) (k .stats))
     (withFrame (withBusy true (withCompletionMask 0 (withStartedMs (a .now-ms) (k .frame)))) k)))
-    (c .before .before .before .before .marks-turned .ensures)
+    (c .before .before .before .marks-turned .ensures)
 
 pub frame-started-spec : {M : Type 1} → statement M
 frame-started-spec =
-    tie.close (tie.spec marks-turned-requires wrapping-add-requires carrying-requires returns)
+    tie.close (tie.spec marks-turned-requires count-frame-started-requires carrying-requires returns)

@@ -3,7 +3,6 @@
 use mathlib.Core.Path.{_∙_, refl, ap}
 use Rattle.dshot_bank_spec.proofs.LaneLaws.{on, off}
 use Rattle.dshot_bank_spec.specs.Service.{expireLease}
-use Prim.Native.Nat.{ℕ}
 use borrow.Author.Tests.{not-true, not-false}
 use Rattle.dshot_bank_spec.specs.State as Spec
 use Rattle.dshot_bank_spec.specs.Commands.{commandStop}
@@ -21,16 +20,16 @@ returns c = off _ _ (not-true (c .before .args .expired) (c .if1 .taken)) refl
 stopped-requires : tie.Need-stopped-requires
 stopped-requires c κs = search needs
 
-wrapping-add-requires : tie.Need-wrapping-add-requires
-wrapping-add-requires c κs = search needs
+count-lease-expiry-requires : tie.Need-count-lease-expiry-requires
+count-lease-expiry-requires c κs = search needs
 
 returns-2 : tie.Need-returns-2
 unfolding expireLease commandStop
 returns-2 c =
-    let k = coreOf (c .before .before .stopped .result) in
-    on _ _ (not-false (c .before .before .before .before .args .expired) (c .before .before .before .if1 .left))
-    (ap (λ (n : ℕ). withStats (withLeaseExpiries n (k .stats)) k) (c .wrapping-add .ensures)
-    ∙ ap (λ (q : Spec.Core). withStats (withLeaseExpiries (wrappingAdd (q .stats .leaseExpiries)) (q .stats)) q) (c .before .before .stopped .ensures))
+    let k = coreOf (c .before .stopped .result) in
+    on _ _ (not-false (c .before .before .before .args .expired) (c .before .before .if1 .left))
+    (ap (λ (s : Spec.Stats). withStats s k) (c .count-lease-expiry .ensures)
+    ∙ ap (λ (q : Spec.Core). withStats (withLeaseExpiries (wrappingAdd (q .stats .leaseExpiries)) (q .stats)) q) (c .before .stopped .ensures))
 
 pub lease-ended-spec : {M : Type 1} → statement M
-lease-ended-spec = tie.close (tie.spec returns stopped-requires wrapping-add-requires returns-2)
+lease-ended-spec = tie.close (tie.spec returns stopped-requires count-lease-expiry-requires returns-2)

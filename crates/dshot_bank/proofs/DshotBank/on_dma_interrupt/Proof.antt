@@ -4,9 +4,10 @@ use mathlib.Core.Path.{_∙_, refl, sym, ap}
 use Prim.Native.Nat.{ℕ}
 use mathlib.Core.List.{[]}
 use lib.ListN.{replicate}
-use Rattle.dshot_bank_spec.specs.Calls.{on-dma-interrupt, portRefusal}
+use Rattle.dshot_bank_spec.specs.Calls.{refused, on-dma-interrupt, portRefusal}
+use Rattle.dshot_bank_spec.specs.Refusals.{noSuchMotor}
 use Rattle.dshot_bank.specs.States.{motorOf, choiceOf}
-use Rattle.dshot_bank.proofs.OrderLaws.{just, whole-none}
+use Rattle.dshot_bank.proofs.OrderLaws.{just}
 use Rattle.dshot_bank.proofs.InterruptLaws.{just-so, stepped-so}
 use Rattle.dshot_bank.proofs.StepLaws.{found-step, missing-step}
 use borrow.Author.Needs.{needs}
@@ -49,7 +50,7 @@ returns-2 c =
     let a = f .before .args in
     let missing = sym (ap choiceOf (c .before .enum-told .given .1)) ∙ f .from-index .ensures in (
       λ b. missing-step _ (λ (i : ℕ). on-dma-interrupt i (a .transfer-complete) (a .dma-error) (a .turned) (a .turned-back)) (λ i. refl) _ missing,
-      just (c .none .result) (replicate 4 0) [] (c .none .ensures .1) refl whole-none,
+      just (c .none .result) (replicate 4 0) [] (refused noSuchMotor) (c .none .ensures .1) refl refl,
     )
 
 pub on-dma-interrupt-spec : {M : Type 1} → statement M

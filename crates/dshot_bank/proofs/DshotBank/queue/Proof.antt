@@ -2,16 +2,14 @@
 -- Assumes nothing.
 use mathlib.Core.Path.{_∙_, refl, sym, ap}
 use Rattle.dshot_bank.proofs.StepLaws.{withRequests, given-so, refused-so}
-use Rattle.dshot_bank.proofs.SendLaws.{two}
 use Rattle.dshot_bank_spec.proofs.LaneLaws.{on, off}
-use mathlib.Core.List.{List}
-use mathlib.Core.Option.{some}
-use Prim.Native.Nat.{ℕ}
+use mathlib.Core.Option.{Option}
+use Rattle.dshot_bank_spec.specs.State.{MotorRun}
 use Rattle.dshot_reply_spec.specs.Answer.{given}
 use Rattle.dshot_bank_spec.specs.Commands.{commandSpecial}
 use Rattle.dshot_bank_spec.specs.With.{withCommandSequence}
 use Rattle.dshot_bank.specs.declared.Requests.{Requests}
-use Rattle.dshot_bank.specs.States.{motorOf, coreOf}
+use Rattle.dshot_bank.specs.States.{coreOf}
 use borrow.Author.Needs.{needs}
 use Rattle.dshot_bank.proofs.DshotBank.queue.Statement.{statement}
 use Rattle.dshot_bank.proofs.DshotBank.queue.Tie as tie
@@ -37,11 +35,8 @@ returns-3 c =
     λ b. refused-so (c .before .before .before .before .before .before .before .args .self) b
     (off _ _ (c .before .before .before .before .before .before .if1 .left) (off _ _ (sym (c .before .before .before .before .is-running .ensures) ∙ c .before .before .before .if2 .left) (on _ _ (sym (c .before .is-some .ensures) ∙ c .if3 .taken) refl)))
 
-array-read-t22 : tie.Need-array-read-t22
-array-read-t22 c = search needs
-
-array-read-t25 : tie.Need-array-read-t25
-array-read-t25 c = search needs
+of-requires : tie.Need-of-requires
+of-requires c κs = search needs
 
 running-requires : tie.Need-running-requires
 running-requires c κs = search needs
@@ -53,9 +48,7 @@ returns-4 c =
     let k = a .self .core in
     let queued =
     ap (λ (r : Requests). given (coreOf (withRequests k r))) (c .before .running .ensures)
-    ∙ ap
-    (λ (l : List ℕ). given (withCommandSequence (some (record { motor = motorOf (a .motor); sequence = record { commands = l; index = a .sequence .index; repeatsLeft = a .sequence .«repeats_left» } })) (coreOf k)))
-    (two (a .sequence .commands) (search needs)) in
+    ∙ ap (λ (r : Option MotorRun). given (withCommandSequence r (coreOf k))) (c .before .before .of .ensures) in
     λ b. given-so (a .self) b (withRequests k (c .before .running .result))
     (off _ _ (c .before .before .before .before .before .before .before .before .before .if1 .left) (off _ _ (sym (c .before .before .before .before .before .before .before .is-running .ensures) ∙ c .before .before .before .before .before .before .if2 .left) (off _ _ (sym (c .before .before .before .before .is-some .ensures) ∙ c .before .before .before .if3 .left) queued)))
 
@@ -68,7 +61,6 @@ queue-spec =
     returns-2
     is-some-requires
     returns-3
-    array-read-t22
-    array-read-t25
+    of-requires
     running-requires
     returns-4)

@@ -9,7 +9,7 @@ use borrow.Author.Needs.{needs}
 use borrow.Author.Tests.{lt-ltb, le-ltb, not-true, not-false}
 use Rattle.dshot_bank_spec.specs.Calls.{Stepped}
 use Rattle.dshot_bank_spec.proofs.LaneLaws.{on, off}
-use Rattle.dshot_bank.specs.Views.{twoFit, shown}
+use Rattle.dshot_bank.specs.Views.{shown}
 use Rattle.dshot_bank.proofs.ReplyLaws.{part-is, two-fit, sending-is}
 use Rattle.dshot_bank.proofs.DshotBank.sending.Statement.{statement}
 use Rattle.dshot_bank.proofs.DshotBank.sending.Tie as tie
@@ -27,7 +27,6 @@ part-result-end : tie.Need-part-result-end
 part-result-end c = search needs
 
 returns : tie.Need-returns
-unfolding twoFit
 returns c = ap (λ (x : Stepped). shown (x .answer)) (sending-is 4 _ _ (sym (c .before .before .buffers-fit .ensures) ∙ not-true _ (c .before .if1 .taken)) refl)
 
 sub-result-2 : tie.Need-sub-result-2
@@ -40,7 +39,6 @@ part-result-end-2 : tie.Need-part-result-end-2
 part-result-end-2 c = search needs
 
 returns-2 : tie.Need-returns-2
-unfolding twoFit
 returns-2 c =
     ap (λ (x : Stepped). shown (x .answer))
     (sending-is 4 _ _ (sym (c .before .before .before .buffers-fit .ensures) ∙ not-false _ (c .before .before .if1 .left)) (le-ltb _ _ (c .before .if2 .taken)))
@@ -71,7 +69,6 @@ part-result-end-3 c =
     omega (arith, n .1)
 
 returns-3 : tie.Need-returns-3
-unfolding twoFit
 returns-3 c =
     let a = c .before .before .before .before .before .before .before .before .args in
     part-is 16 (a .motor) (a .second .now)
@@ -96,7 +93,6 @@ part-result-end-4 c =
     omega (arith, n .0)
 
 returns-4 : tie.Need-returns-4
-unfolding twoFit
 returns-4 c =
     let a = c .before .before .before .before .before .before .before .before .args in
     part-is 16 (a .motor) (a .first .now)

@@ -4,14 +4,16 @@ use mathlib.Core.Path.{_∙_, refl, sym, ap}
 use mathlib.Core.Bool.{Bool}
 use mathlib.Core.List.{List, []}
 use borrow.Author.Tests.{not-true, not-false}
-use Rattle.dshot_bank.proofs.OrderLaws.{whole-none, back, just}
+use Rattle.dshot_bank.proofs.OrderLaws.{back, just}
 use Rattle.dshot_bank_spec.specs.State.{Buffers}
 use Rattle.dshot_bank_spec.specs.Order.{Order}
-use Rattle.dshot_bank_spec.specs.Calls.{State, act, lengthRefusal, refuseOr, portRefusal, step, service-call}
+use Rattle.dshot_bank_spec.specs.Calls.{refused, State, act, lengthRefusal, refuseOr, portRefusal, step, service-call}
 use Rattle.dshot_bank.specs.States.{stateOf}
-use Rattle.dshot_bank.specs.Serves.{serviceAnswer, lengthsFit}
-use Rattle.dshot_bank.specs.Views.{twoFit}
+use Rattle.dshot_bank.specs.Serves.{serviceAnswer}
 use Rattle.dshot_bank.proofs.ReplyLaws.{three-fit}
+use lib.ListN.{replicate}
+use Rattle.dshot_reply_spec.specs.Answer.{wrongLength}
+use Rattle.dshot_bank.specs.Orders.{ordersIn}
 use borrow.Author.Needs.{needs}
 use Rattle.dshot_bank.proofs.DshotBank.service.Statement.{statement}
 use Rattle.dshot_bank.proofs.DshotBank.service.Tie as tie
@@ -23,14 +25,14 @@ none-requires : tie.Need-none-requires
 none-requires c κs = search needs
 
 returns : tie.Need-returns
-unfolding step portRefusal lengthsFit twoFit
+unfolding step portRefusal
 returns c =
     let a = c .before .before .before .before .before .before .args in
     let b : Buffers = record { first = a .first .now; second = a .second .now } in
     let s : State = stateOf (a .self) b in
     let acted = act 4 s (service-call (a .now-ms) (a .taken) (a .present) (a .masks) (a .captures .now)) in
     let misfit = sym (c .before .before .lengths-fit .ensures) ∙ not-true _ (c .before .if1 .taken) in
-    (sym (ap (λ (t : Bool). refuseOr s (lengthRefusal t 0) acted) misfit), just _ _ [] (c .none .ensures .1) refl whole-none)
+    (sym (ap (λ (t : Bool). refuseOr s (lengthRefusal t 0) acted) misfit), just (c .none .result) (replicate 4 0) [] (refused wrongLength) (c .none .ensures .1) refl refl)
 
 service-lanes-requires : tie.Need-service-lanes-requires
 service-lanes-requires c κs = three-fit _ _ _ (sym (c .before .before .before .lengths-fit .ensures) ∙ not-false _ (c .before .before .if1 .left))
@@ -42,7 +44,7 @@ same-length-2 : tie.Need-same-length-2
 same-length-2 c = search needs
 
 returns-2 : tie.Need-returns-2
-unfolding step portRefusal lengthsFit twoFit
+unfolding step portRefusal
 returns-2 c =
     let a = c .before .before .before .before .before .before .before .before .before .before .before .before .args in
     let b : Buffers = record { first = a .first .now; second = a .second .now } in
@@ -55,7 +57,7 @@ returns-2 c =
     let answer = ap (λ (l : List Order). serviceAnswer (r .answer) l) told ∙ h .answer in (
       (λ j. record { answer = answer j; state = record { bank = h .bank j; buffers = h .buffers j } })
           ∙ sym (ap (λ (t : Bool). refuseOr s (lengthRefusal t 0) acted) fit),
-      just (r .orders) (r .«first_duties») _ (h .orders) (h .duties) (h .whole),
+      just (r .orders) (r .«first_duties») _ _ (h .orders) (h .duties) (ap ordersIn answer),
     )
 
 pub service-spec : {M : Type 1} → statement M

@@ -3,7 +3,6 @@
 use mathlib.Core.Path.{_∙_, refl, sym}
 use borrow.Author.Needs.{needs}
 use borrow.Author.Tests.{lt-ltb, le-ltb, not-true, not-false}
-use Rattle.dshot_bank.specs.Views.{twoFit}
 use Rattle.dshot_bank.proofs.ReplyLaws.{sending-is}
 use Rattle.dshot_bank.proofs.DshotBank.view.Statement.{statement}
 use Rattle.dshot_bank.proofs.DshotBank.view.Tie as tie
@@ -12,15 +11,12 @@ buffers-fit-requires : tie.Need-buffers-fit-requires
 buffers-fit-requires c κs = search needs
 
 returns : tie.Need-returns
-unfolding twoFit
 returns c = sending-is 4 _ _ (sym (c .before .buffers-fit .ensures) ∙ not-true _ (c .if1 .taken)) refl
 
 returns-2 : tie.Need-returns-2
-unfolding twoFit
 returns-2 c = sending-is 4 _ _ (sym (c .before .before .buffers-fit .ensures) ∙ not-false _ (c .before .if1 .left)) (lt-ltb _ _ (c .if2 .taken))
 
 returns-3 : tie.Need-returns-3
-unfolding twoFit
 returns-3 c = sending-is 4 _ _ (sym (c .before .before .buffers-fit .ensures) ∙ not-false _ (c .before .if1 .left)) (le-ltb _ _ (c .if2 .left))
 
 pub view-spec : {M : Type 1} → statement M

@@ -1,10 +1,9 @@
--- `dshot_bank::looks::buffers_fit` meets its contract: the two tests of `twoFit`.
+-- `dshot_bank::looks::buffers_fit` meets its contract: the two tests of `slotsFit`.
 -- Assumes nothing.
 use mathlib.Core.Path.{refl}
 use borrow.Author.Needs.{needs}
 use borrow.Author.Tests.{eq-eqb, ne-eqb}
 use Rattle.dshot_bank_spec.proofs.LaneLaws.{on, off}
-use Rattle.dshot_bank.specs.Views.{twoFit}
 use Rattle.dshot_bank.proofs.looks.buffers_fit.Statement.{statement}
 use Rattle.dshot_bank.proofs.looks.buffers_fit.Tie as tie
 
@@ -12,14 +11,12 @@ mul-if1 : tie.Need-mul-if1
 mul-if1 c = search needs
 
 returns : tie.Need-returns
-unfolding twoFit
 returns c = off _ _ (ne-eqb _ _ (c .if1 .taken)) refl
 
 mul-result : tie.Need-mul-result
 mul-result c = search needs
 
 returns-2 : tie.Need-returns-2
-unfolding twoFit
 returns-2 c = on _ _ (eq-eqb _ _ (c .if1 .left)) refl
 
 pub buffers-fit-spec : {M : Type 1} → statement M

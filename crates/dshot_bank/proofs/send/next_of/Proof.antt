@@ -1,15 +1,12 @@
 -- `dshot_bank::send::next_of` meets its contract.
 -- Assumes nothing.
-use mathlib.Core.Path.{sym, ap}
 use Rattle.dshot_bank_spec.specs.Commands.{nextOf}
 use Rattle.dshot.specs.declared.CommandValue.{CommandValue}
 use Rattle.dshot.specs.Answers.{commandOf, runOf}
 use Rattle.dshot_bank.specs.States.{motorOf}
 use mathlib.Core.Path.{_∙_, sym, ap}
-use Rattle.dshot_bank.proofs.SendLaws.{two}
-use Prim.Native.Nat.{ℕ}
-use mathlib.Core.List.{List}
-use mathlib.Core.Option.{some}
+use mathlib.Core.Option.{Option, some}
+use Rattle.dshot_bank_spec.specs.State.{MotorRun}
 use borrow.Author.Needs.{needs}
 use Rattle.dshot_bank.proofs.send.next_of.Statement.{statement}
 use Rattle.dshot_bank.proofs.send.next_of.Tie as tie
@@ -17,11 +14,8 @@ use Rattle.dshot_bank.proofs.send.next_of.Tie as tie
 enum-known-value : tie.Need-enum-known-value
 enum-known-value c = search needs
 
-array-read-t10 : tie.Need-array-read-t10
-array-read-t10 c = search needs
-
-array-read-t13 : tie.Need-array-read-t13
-array-read-t13 c = search needs
+of-requires : tie.Need-of-requires
+of-requires c κs = search needs
 
 enum-told : tie.Need-enum-told
 enum-told c = search needs
@@ -30,9 +24,7 @@ returns : tie.Need-returns
 returns c =
     let a = c .before .before .before .before .args in
     let m = motorOf (a .motor) in
-    ap
-    (λ (l : List ℕ). record { command = some (record { motor = m; command = c .before .before .value .given .0 .0 }); left = some (record { motor = m; sequence = record { commands = l; index = a .sequence .index; repeatsLeft = a .sequence .«repeats_left» } }) })
-    (two (a .sequence .commands) (search needs))
+    ap (λ (r : Option MotorRun). record { command = some (record { motor = m; command = c .before .before .value .given .0 .0 }); left = r }) (c .of .ensures)
     ∙ sym (ap (λ (v : CommandValue). nextOf m (commandOf v) (runOf (a .sequence))) (c .before .before .value .given .1))
 
 returns-2 : tie.Need-returns-2
@@ -42,4 +34,4 @@ returns-2 c =
 
 pub next-of-spec : {M : Type 1} → statement M
 next-of-spec =
-    tie.close (tie.spec enum-known-value array-read-t10 array-read-t13 enum-told returns returns-2)
+    tie.close (tie.spec enum-known-value of-requires enum-told returns returns-2)

@@ -3,7 +3,6 @@
 use mathlib.Core.Path.{_∙_, refl, sym}
 use Rattle.dshot_bank_spec.proofs.LaneLaws.{on, off}
 use borrow.Author.Tests.{not-true, not-false}
-use Rattle.dshot_bank.specs.Serves.{lengthsFit}
 use borrow.Author.Needs.{needs}
 use Rattle.dshot_bank.proofs.service.lengths_fit.Statement.{statement}
 use Rattle.dshot_bank.proofs.service.lengths_fit.Tie as tie
@@ -12,14 +11,12 @@ buffers-fit-requires : tie.Need-buffers-fit-requires
 buffers-fit-requires c κs = search needs
 
 returns : tie.Need-returns
-unfolding lengthsFit
 returns c = off _ _ (sym (c .before .buffers-fit .ensures) ∙ not-true _ (c .if1 .taken)) refl
 
 mul-result : tie.Need-mul-result
 mul-result c = search needs
 
 returns-2 : tie.Need-returns-2
-unfolding lengthsFit
 returns-2 c = on _ _ (sym (c .before .buffers-fit .ensures) ∙ not-false _ (c .if1 .left)) refl
 
 pub lengths-fit-spec : {M : Type 1} → statement M
