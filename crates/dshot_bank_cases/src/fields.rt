@@ -1,0 +1,103 @@
+// Prints the fields of a bank.
+
+use crate::counts;
+use crate::motors;
+use crate::part;
+use crate::part::MOST;
+use crate::part::Part;
+use crate::put;
+use crate::put::BYTES;
+use crate::replies;
+use crate::widths::flag;
+use crate::widths::wide8;
+use crate::widths::wide16;
+use crate::widths::wide32;
+use dshot_bank::CommandRun;
+use dshot_bank::Demand;
+use dshot_bank::DshotBank;
+use dshot_bank::Frame;
+use dshot_bank::Lease;
+use dshot_bank::Requests;
+
+// 0, or 1 and the lease.
+fn of_lease(lease: Lease) -> Part {
+    match lease {
+        Lease::None => part::one(0),
+        Lease::Some(duration) => part::two(1, wide32(duration)),
+    }
+}
+
+// 0, or the motor and the run.
+fn of_run(run: CommandRun) -> Part {
+    match run {
+        CommandRun::None => part::one(0),
+        CommandRun::Some {
+            motor,
+            first,
+            second,
+            index,
+            repeats_left,
+        } => {
+            let mut list = [0; MOST];
+            list[0] = motors::of_motor(motor);
+            list[1] = wide16(first);
+            list[2] = wide16(second);
+            list[3] = wide8(index);
+            list[4] = wide8(repeats_left);
+            Part { count: 5, list }
+        }
+    }
+}
+
+fn of_frame(frame: Frame) -> Part {
+    let mut list = [0; MOST];
+    list[0] = frame.frame_started_ms;
+    list[1] = wide8(frame.completion_mask);
+    list[2] = flag(frame.busy);
+    list[3] = flag(frame.faulted);
+    list[4] = flag(frame.bidirectional);
+    list[5] = flag(frame.receiving);
+    list[6] = flag(frame.replies_waiting);
+    Part { count: 7, list }
+}
+
+// For each lane, the buffer that holds the sequence that it is sending.
+fn of_marks(frame: Frame) -> Part {
+    let marks = frame.in_second;
+    part::four(
+        flag(marks[0]),
+        flag(marks[1]),
+        flag(marks[2]),
+        flag(marks[3]),
+    )
+}
+
+fn put_demand(out: &mut [u8; BYTES], at: usize, demand: Demand) -> usize {
+    let values = demand.requested_values;
+    let lease = demand.lease_duration_ms;
+    let valued = put::part(out, at, part::of_values(values));
+    let started = put::number(out, valued, demand.lease_started_ms);
+    put::part(out, started, of_lease(lease))
+}
+
+fn put_requests(out: &mut [u8; BYTES], at: usize, requests: Requests) -> usize {
+    let request = requests.telemetry_request;
+    let sent = requests.telemetry_request_sent;
+    let run = requests.command_sequence;
+    let requested = put::number(out, at, motors::of_choice(request));
+    let told = put::number(out, requested, motors::of_choice(sent));
+    put::part(out, told, of_run(run))
+}
+
+// The replies and their counts are what the bank's own calls show of them.
+pub(crate) fn put_fields(out: &mut [u8; BYTES], at: usize, bank: DshotBank) -> usize {
+    let core = bank.core;
+    let frame = core.frame;
+    let demanded = put_demand(out, at, core.demand);
+    let requested = put_requests(out, demanded, core.requests);
+    let framed = put::part(out, requested, of_frame(frame));
+    let replied = put::part(out, framed, replies::of_taken(bank.take_replies()));
+    let counted = put::part(out, replied, counts::of_stats(core.stats));
+    let heard = put::part(out, counted, counts::of_reply_stats(bank.reply_stats()));
+    put::part(out, heard, of_marks(frame))
+}
