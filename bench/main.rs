@@ -1,6 +1,10 @@
 //! Measures the library, through its archive, and the source it is ported from. Prints a row a
 //! bench: nanoseconds and instructions of a call for both, and the library's over the original's.
 
+mod bank;
+mod bank_benches;
+mod bank_inputs;
+mod bank_lanes;
 mod benches;
 mod calls;
 mod frame_benches;
@@ -48,6 +52,7 @@ fn all() -> Vec<Bench> {
     benches::all()
         .into_iter()
         .chain(frame_benches::all())
+        .chain(bank_benches::all())
         .collect()
 }
 
@@ -71,7 +76,7 @@ fn main() -> ExitCode {
 }
 
 fn table() -> ExitCode {
-    if !benches::agree() || !frame_benches::agree() {
+    if !benches::agree() || !frame_benches::agree() || !bank_benches::agree() {
         eprintln!("the library and the original do not agree");
         return ExitCode::FAILURE;
     }

@@ -1,0 +1,144 @@
+//! The cycles of a four-motor bank, either side in a loop of its own: the throttles are renewed, a
+//! service sends a frame set, and its interrupts come. The clock goes on by one a cycle. On both
+//! sides every order to the hardware is looked at, and its number added to a sum: orders that nobody
+//! reads are orders that the compiler leaves out.
+
+use crate::bank_lanes::{Buffer, Lanes};
+use dshot_bank::{DshotBank, DshotMotor};
+use ferrowasp_output::dshot::DshotTiming;
+use ferrowasp_output::dshot_reply::DshotReply;
+use std::cell::Cell;
+
+const LEASE_MS: u32 = 10;
+
+/// What a run of cycles is given: for each cycle four throttles and four captures.
+pub struct Cycles {
+    pub timing: [u16; 4],
+    pub bidirectional: bool,
+    /// Whether the captures are there to be read.
+    pub present: bool,
+    pub mask: u16,
+    /// Interrupts of a cycle.
+    pub interrupts: usize,
+    pub throttles: Vec<[u16; 4]>,
+    pub captures: Vec<u16>,
+}
+
+/// The two buffers, and of each lane the completions, the valid and the invalid replies, those
+/// since the last valid one, and the last speed. Then the bank's frame sets, started and completed,
+/// its faults, and the sum of its orders and of the first duties.
+#[derive(Clone, Copy, Debug, Default, Eq, PartialEq)]
+pub struct Left {
+    pub buffers: [[Buffer; 4]; 2],
+    pub counts: [[u32; 4]; 6],
+}
+
+#[inline(never)]
+pub fn original_cycles(cycles: &Cycles, left: &mut Left) {
+    let buffers = Box::into_raw(Box::new(left.buffers));
+    // The bank is gone before the box is taken back.
+    let [current, spares] = unsafe { &mut *buffers }.each_mut();
+    let sum = Cell::new(0);
+    let lanes = Lanes {
+        current: current.each_mut(),
+        receives: cycles.bidirectional,
+        present: cycles.present,
+        mask: cycles.mask,
+        captures: &cycles.captures,
+        started: 0,
+        sum: &sum,
+    };
+    let [arr, zero_high, one_high, reply_sample_arr] = cycles.timing;
+    let timing = DshotTiming {
+        arr,
+        zero_high,
+        one_high,
+        reply_sample_arr,
+    };
+    let mut bank = DshotBank::from_lanes(lanes, spares.each_mut(), timing);
+    // Refused where the lanes do not receive.
+    let _ = bank.enable_bidirectional();
+    for (now_ms, throttles) in (0..).zip(&cycles.throttles) {
+        let _ = bank.command_throttles(*throttles, now_ms, LEASE_MS);
+        bank.service(now_ms);
+        for interrupt in 0..cycles.interrupts {
+            bank.on_dma_interrupt(DshotMotor::ALL[interrupt % 4]);
+        }
+    }
+    let (stats, replies) = (bank.stats(), bank.reply_stats());
+    let speeds = bank.take_replies().map_or([0; 4], |read| {
+        read.map(|reply| match reply {
+            Ok(DshotReply::Erpm { erpm_div100 }) => erpm_div100,
+            _ => 0,
+        })
+    });
+    left.counts = [
+        stats.lane_completions,
+        replies.valid,
+        replies.invalid,
+        replies.consecutive_invalid,
+        speeds,
+        [
+            stats.frames_started,
+            stats.frames_completed,
+            stats.dma_faults,
+            sum.get(),
+        ],
+    ];
+    drop(bank);
+    left.buffers = *unsafe { Box::from_raw(buffers) };
+}
+
+extern "C" {
+    fn bench_bank_cycles(
+        arr: u16,
+        zero_high: u16,
+        one_high: u16,
+        reply_sample_arr: u16,
+        bidirectional: u32,
+        present: u32,
+        mask: u16,
+        interrupts: usize,
+        throttles: *const u16,
+        four_a_cycle: usize,
+        captures: *const u16,
+        samples: usize,
+        first: *mut u16,
+        sixty_four: usize,
+        second: *mut u16,
+        sixty_four_too: usize,
+        counts: *mut u32,
+        twenty_four: usize,
+    ) -> u32;
+}
+
+/// The refusal's number.
+#[inline(never)]
+pub fn library_cycles(cycles: &Cycles, left: &mut Left) -> u32 {
+    let [arr, zero, one, sample] = cycles.timing;
+    let (throttles, captures) = (cycles.throttles.as_flattened(), &cycles.captures);
+    let [first, second] = left.buffers.each_mut().map(|four| four.as_flattened_mut());
+    let counts = left.counts.as_flattened_mut();
+    unsafe {
+        bench_bank_cycles(
+            arr,
+            zero,
+            one,
+            sample,
+            cycles.bidirectional.into(),
+            cycles.present.into(),
+            cycles.mask,
+            cycles.interrupts,
+            throttles.as_ptr(),
+            throttles.len(),
+            captures.as_ptr(),
+            captures.len(),
+            first.as_mut_ptr(),
+            first.len(),
+            second.as_mut_ptr(),
+            second.len(),
+            counts.as_mut_ptr(),
+            counts.len(),
+        )
+    }
+}

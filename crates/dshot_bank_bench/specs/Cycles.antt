@@ -1,0 +1,143 @@
+-- Cycles of a bank, as the bench asks for them: each is calls of the bank, whose orders are added up, and all of them together leave a bank with
+-- its buffers, and a sum.
+-- Assumes nothing.
+use Prim.Native.Nat.{ℕ, zero, suc, _+_, _*_, _/_, _%_, _^_}
+use mathlib.Core.Bool.{Bool, true, false, not}
+use mathlib.Core.List.{List, [], _∷_, map}
+use lib.Dec.{eqb}
+use lib.ListN.{length, getD, take, drop, replicate}
+use Rattle.dshot_reply_spec.specs.Answer.{pick, wrongLength}
+use Rattle.dshot_reply_spec.specs.Answer as Reply
+use Rattle.dshot_reply_spec.specs.Value.{Reading, erpm, temp, volt, amp, debug, state, edt}
+use Rattle.dshot_spec.specs.Tabulate.{tabulate}
+use Rattle.dshot_bank_spec.specs.State.{Stats, LaneReply, Bank, Buffers}
+use Rattle.dshot_bank_spec.specs.Commands.{fromLanes}
+use Rattle.dshot_bank_spec.specs.Calls.{Call, State, step, enable-bidirectional, command-throttles, service-call, on-dma-interrupt}
+use Rattle.dshot_bank.specs.declared.orders.OrderKind.{OrderKind}
+use Rattle.dshot_bank.specs.declared.orders.OrderKind.the-variants.{None, ExchangeBuffer, StartDma, StartFrame, StopFrame, ForceOutputsLow, PauseAndClear, BeginReceive, EndReceive}
+use Rattle.dshot_bank.specs.declared.orders.Order.{Order}
+use Rattle.dshot_bank.specs.Orders.{entry, dutiesIn, ordersIn}
+
+-- ---- the sum of what is ordered, modulo 2 ^ 32
+
+abbrev pub addAll : ℕ → List ℕ → ℕ
+addAll s [] = s
+addAll s (n ∷ ns) = addAll ((s + n) % 2 ^ 32) ns
+
+abbrev pub kindNumber : OrderKind → ℕ
+kindNumber None = 0
+kindNumber ExchangeBuffer = 1
+kindNumber StartDma = 2
+kindNumber StartFrame = 3
+kindNumber StopFrame = 4
+kindNumber ForceOutputsLow = 5
+kindNumber PauseAndClear = 6
+kindNumber BeginReceive = 7
+kindNumber EndReceive = 8
+
+abbrev pub orderNumber : Order → ℕ
+orderNumber o = 8 * kindNumber (o .kind) + o .motor
+
+-- with the numbers of some orders, and their first duties
+abbrev pub told : ℕ → List Order → List ℕ → ℕ
+told s orders duties = addAll (addAll s (map orderNumber orders)) duties
+
+-- ---- calls and cycles
+
+-- a bank with its buffers, and the sum of what it ordered so far
+pub record Run : Type 0 where
+  pub state : State
+  pub sum : ℕ
+
+-- what a call leaves, and orders
+abbrev pub after : Run → Call → Run
+after r call =
+    let x = step 4 (r .state) call in
+    record { state = x .state; sum = told (r .sum) (map entry (ordersIn (x .answer))) (dutiesIn (ordersIn (x .answer))) }
+
+-- what a call leaves that orders nothing
+abbrev pub past : Run → Call → Run
+past r call = record { state = step 4 (r .state) call .state; sum = r .sum }
+
+-- after i interrupts, of one lane after the other: each transfer is complete, and the lanes turn where they are asked to
+unfoldable pub interrupts : ℕ → Run → Run
+interrupts zero r = r
+interrupts (suc i) r = after (interrupts i r) (on-dma-interrupt (i % 4) true false true true)
+
+-- the throttles of cycle n
+abbrev pub throttlesAt : List ℕ → ℕ → List ℕ
+throttlesAt xs n = getD xs (4 * n) 0 ∷ getD xs (4 * n + 1) 0 ∷ getD xs (4 * n + 2) 0 ∷ getD xs (4 * n + 3) 0 ∷ []
+
+-- the throttles are renewed, all buffers are taken, each capture is there or none is, and the interrupts come; the clock is n
+abbrev pub cycle : List ℕ → Bool → ℕ → List ℕ → ℕ → ℕ → Run → Run
+cycle throttles present mask samples count n r =
+    interrupts count
+    (after (past r (command-throttles throttles n 10)) (service-call n (replicate 4 true) (replicate 4 present) (replicate 4 mask) samples))
+
+-- after n cycles, each with its own four throttles and four windows
+unfoldable pub cycles : Bool → ℕ → ℕ → List ℕ → List ℕ → Run → ℕ → Run
+cycles present mask count throttles captures r zero = r
+cycles present mask count throttles captures r (suc n) =
+    cycle (throttlesAt throttles n) present mask (take 640 (drop (640 * n) captures)) count n (cycles present mask count throttles captures r n)
+
+-- a new bank with its timing and its buffers, bidirectional or not; nothing is ordered yet
+abbrev pub start : ℕ → ℕ → ℕ → ℕ → Bool → Buffers → Run
+start arr low high sample bidirectional b =
+    let bank = fromLanes 4 (record { arr = arr; zeroHigh = low; oneHigh = high; replySampleArr = sample }) in
+    past (record { state = record { bank = bank; buffers = b }; sum = 0 }) (enable-bidirectional bidirectional)
+
+-- whether every slice has its length, where the captures are enough for n cycles
+unfoldable pub fit : ℕ → ℕ → ℕ → ℕ → ℕ → Bool
+fit n throttles first second numbers =
+    pick (eqb throttles (4 * n)) (pick (eqb first 64) (pick (eqb second 64) (eqb numbers 24) false) false) false
+
+-- what as many cycles as there are captures for leave of a new bank, if every slice has its length; a flag of 0 is no
+unfoldable pub asked : ℕ → ℕ → ℕ → ℕ → ℕ → ℕ → ℕ → ℕ → List ℕ → List ℕ → List ℕ → List ℕ → List ℕ → Reply.Answer Run
+asked arr low high sample bidirectional present mask count throttles captures first second numbers =
+    let n = length captures / 640 in
+    pick (fit n (length throttles) (length first) (length second) (length numbers))
+    (Reply.given (cycles (not (eqb present 0)) mask count throttles captures (start arr low high sample (not (eqb bidirectional 0)) (record { first = first; second = second })) n))
+    (Reply.refused wrongLength)
+
+-- ---- what is told of what is left
+
+abbrev pub firstOf : Run → List ℕ
+firstOf r = r .state .buffers .first
+
+abbrev pub secondOf : Run → List ℕ
+secondOf r = r .state .buffers .second
+
+-- the speed that a reply reads as, or 0
+abbrev pub speed : Reply.Answer Reading → ℕ
+speed (Reply.given (erpm n)) = n
+speed (Reply.given (temp n)) = 0
+speed (Reply.given (volt n)) = 0
+speed (Reply.given (amp n)) = 0
+speed (Reply.given (debug c n)) = 0
+speed (Reply.given (state n)) = 0
+speed (Reply.given edt) = 0
+speed (Reply.refused n) = 0
+
+-- some counts of a bank, and the sum
+abbrev pub bankCounts : Stats → ℕ → List ℕ
+bankCounts s sum = s .framesStarted ∷ s .framesCompleted ∷ s .dmaFaults ∷ sum ∷ []
+
+-- of a lane, by the kind of count: its completions, its good and its bad replies, the bad ones since the last good one, its speed; and one that is not of a lane
+abbrev pub countOf : ℕ → ℕ → LaneReply → ℕ → ℕ
+countOf kind completions reply other =
+    pick (eqb kind 0) completions
+    (pick (eqb kind 1) (reply .valid)
+    (pick (eqb kind 2) (reply .invalid)
+    (pick (eqb kind 3) (reply .consecutiveInvalid)
+    (pick (eqb kind 4) (speed (reply .reply)) other))))
+
+-- what would stand where there is no lane
+abbrev pub noLane : LaneReply
+noLane = record { reply = Reply.given (erpm 0); valid = 0; invalid = 0; consecutiveInvalid = 0 }
+
+unfoldable pub countAt : Bank → ℕ → ℕ → ℕ
+countAt b sum i =
+    countOf (i / 4) (getD (b .core .stats .laneCompletions) (i % 4) 0) (getD (b .replies) (i % 4) noLane) (getD (bankCounts (b .core .stats) sum) (i % 4) 0)
+
+abbrev pub countsOf : Run → List ℕ
+countsOf r = tabulate 24 (countAt (r .state .bank) (r .sum))

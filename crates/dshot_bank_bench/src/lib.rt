@@ -1,0 +1,344 @@
+// For bench/ alone: the cycles of a bank in a loop of the library's own, since C cannot hold a bank between two calls.
+
+use dshot::DshotTiming;
+use dshot::MotorValues;
+use dshot_bank::DshotBank;
+use dshot_bank::LANES;
+use dshot_bank::orders::MOST_ORDERS;
+use dshot_bank::orders::Order;
+use dshot_bank::orders::OrderKind;
+use dshot_reply::DshotReply;
+use dshot_reply::ReplyRead;
+ghost use mathlib.Core.Path.{_≡_};
+ghost use Prim.Native.Nat.{_*_, _≤_};
+ghost use mathlib.Core.Bool.{true, false};
+ghost use mathlib.Core.List.{map};
+ghost use lib.ListN.{length, take, replicate};
+ghost use Rattle.dshot_reply_spec.specs.Answer.{refusalNumber, filled};
+ghost use Rattle.dshot_spec.specs.Tabulate.{tabulate};
+ghost use Rattle.dshot_reply.specs.Answers.{replyAnswer};
+ghost use Rattle.dshot_bank_spec.specs.State.{Buffers};
+ghost use Rattle.dshot_bank_spec.specs.Calls.{command-throttles, service-call, on-dma-interrupt};
+ghost use Rattle.dshot_bank.specs.States.{bankOf};
+ghost use Rattle.dshot_bank_bench.specs.Cycles.{addAll, kindNumber, orderNumber, after, past, fit, speed, countAt, asked, firstOf, secondOf, countsOf};
+ghost use Rattle.dshot_bank_bench.specs.Runs.{runOf};
+ghost use Rattle.dshot_bank_bench.specs.Cycles as Spec;
+
+// The samples of four windows.
+const WINDOWS: usize = 640;
+
+const LEASE_MS: u32 = 10;
+
+// A bank, and the sum of what it ordered so far.
+struct Run {
+    pub bank: DshotBank,
+    pub sum: u32,
+}
+
+fn kind_number(kind: OrderKind) -> u32
+    ensures { λ r. ⌜ (r ≡ kindNumber kind) × (r ≤ 8) ⌝ }
+{
+    match kind {
+        OrderKind::None => 0,
+        OrderKind::ExchangeBuffer => 1,
+        OrderKind::StartDma => 2,
+        OrderKind::StartFrame => 3,
+        OrderKind::StopFrame => 4,
+        OrderKind::ForceOutputsLow => 5,
+        OrderKind::PauseAndClear => 6,
+        OrderKind::BeginReceive => 7,
+        OrderKind::EndReceive => 8,
+    }
+}
+
+fn order_number(order: Order) -> u32
+    ensures { λ r. ⌜ r ≡ orderNumber order ⌝ }
+{
+    let kind = order.kind;
+    8 * kind_number(kind) + order.motor as u32
+}
+
+fn add_orders(start: u32, count: usize, list: [Order; MOST_ORDERS]) -> u32
+    ensures { λ r. ⌜ r ≡ addAll start (map orderNumber (take count list)) ⌝ }
+{
+    let mut sum = start;
+    let mut i = 0;
+    while i < MOST_ORDERS {
+        if i >= count {
+            return sum;
+        }
+        let order = list[i];
+        sum = std::num::wrapping_add_u32(sum, order_number(order));
+        i += 1;
+    }
+    sum
+}
+
+fn add_duties(sum: u32, duties: MotorValues) -> u32
+    ensures { λ r. ⌜ r ≡ addAll sum duties ⌝ }
+{
+    let a = std::num::wrapping_add_u32(sum, duties[0] as u32);
+    let b = std::num::wrapping_add_u32(a, duties[1] as u32);
+    let c = std::num::wrapping_add_u32(b, duties[2] as u32);
+    std::num::wrapping_add_u32(c, duties[3] as u32)
+}
+
+impl Run {
+    // An interrupt of a lane: its transfer is complete, and the lanes turn where they are asked to.
+    fn interrupt(self, lane: usize) -> Self
+        ensures { λ r. ⌜ ((b : Buffers) → runOf r b ≡ after (runOf self b) (on-dma-interrupt lane true false true true)) ⌝ }
+    {
+        let sum = self.sum;
+        let done = self.bank.on_dma_interrupt(lane, true, false, true, true);
+        let bank = done.bank;
+        let orders = done.orders;
+        let list = orders.list;
+        let sum = add_duties(add_orders(sum, orders.count, list), [0; LANES]);
+        Run { bank, sum }
+    }
+
+    // Of one lane after the other.
+    fn interrupts(self, count: usize) -> Self
+        ensures { λ r. ⌜ ((b : Buffers) → runOf r b ≡ Spec.interrupts count (runOf self b)) ⌝ }
+    {
+        let mut run = self;
+        let mut i = 0;
+        while i < count {
+            run = run.interrupt(i % LANES);
+            i += 1;
+        }
+        run
+    }
+
+    // The throttles are renewed.
+    fn throttle(self, throttles: MotorValues, now_ms: u64) -> Self
+        ensures { λ r. ⌜ ((b : Buffers) → runOf r b ≡ past (runOf self b) (command-throttles throttles «now_ms» 10)) ⌝ }
+    {
+        let sum = self.sum;
+        let throttled = self.bank.command_throttles(throttles, now_ms, LEASE_MS);
+        let bank = throttled.bank;
+        Run { bank, sum }
+    }
+
+    // A frame set is sent: all buffers are taken, and each capture is there or none is.
+    fn serve(
+        self,
+        now_ms: u64,
+        present: bool,
+        mask: u16,
+        captures: &[u16],
+        first: &mut [u16],
+        second: &mut [u16],
+    ) -> Self
+        ensures { λ r. ⌜ _≡_ {A = Spec.Run} (runOf r (record { first = now (first .exit); second = now (second .exit) })) (after (runOf self (record { first = now (first .entry); second = now (second .entry) })) (service-call «now_ms» (replicate 4 true) (replicate 4 present) (replicate 4 mask) (now (captures .entry)))) ⌝ }
+    {
+        let sum = self.sum;
+        let served = self.bank.service(
+            now_ms,
+            [true; LANES],
+            [present; LANES],
+            [mask; LANES],
+            first,
+            second,
+            captures,
+        );
+        let bank = served.bank;
+        let orders = served.orders;
+        let list = orders.list;
+        let duties = served.first_duties;
+        let sum = add_duties(add_orders(sum, orders.count, list), duties);
+        Run { bank, sum }
+    }
+
+    fn cycle(
+        self,
+        now_ms: u64,
+        throttles: MotorValues,
+        present: bool,
+        mask: u16,
+        count: usize,
+        captures: &[u16],
+        first: &mut [u16],
+        second: &mut [u16],
+    ) -> Self
+        ensures { λ r. ⌜ _≡_ {A = Spec.Run} (runOf r (record { first = now (first .exit); second = now (second .exit) })) (Spec.cycle throttles present mask (now (captures .entry)) count «now_ms» (runOf self (record { first = now (first .entry); second = now (second .entry) }))) ⌝ }
+    {
+        self.throttle(throttles, now_ms)
+            .serve(now_ms, present, mask, captures, first, second)
+            .interrupts(count)
+    }
+}
+
+// So many cycles, each with its own four throttles and four windows.
+fn cycles_from(
+    start: Run,
+    cycles: usize,
+    present: bool,
+    mask: u16,
+    interrupts: usize,
+    throttles: &[u16],
+    captures: &[u16],
+    first: &mut [u16],
+    second: &mut [u16],
+) -> Run
+    requires { ⌜ (length (now throttles) ≡ 4 * cycles) × (640 * cycles ≤ length (now captures)) ⌝ }
+    ensures { λ r. ⌜ _≡_ {A = Spec.Run} (runOf r (record { first = now (first .exit); second = now (second .exit) })) (Spec.cycles present mask interrupts (now (throttles .entry)) (now (captures .entry)) (runOf start (record { first = now (first .entry); second = now (second .entry) })) cycles) ⌝ }
+{
+    let mut run = start;
+    let mut n = 0;
+    while n < cycles {
+        let t = 4 * n;
+        let four = [
+            throttles[t],
+            throttles[t + 1],
+            throttles[t + 2],
+            throttles[t + 3],
+        ];
+        let from = WINDOWS * n;
+        let to = from + WINDOWS;
+        run = run.cycle(
+            n as u64,
+            four,
+            present,
+            mask,
+            interrupts,
+            &captures[from..to],
+            first,
+            second,
+        );
+        n += 1;
+    }
+    run
+}
+
+// The speed that a reply reads as, or 0.
+fn speed_of(reply: ReplyRead) -> u32
+    ensures { λ r. ⌜ r ≡ speed (replyAnswer reply) ⌝ }
+{
+    match reply {
+        ReplyRead::Reply(read) => match read {
+            DshotReply::Erpm { erpm_div100 } => erpm_div100,
+            DshotReply::Temperature { celsius: _ } => 0,
+            DshotReply::Voltage { quarter_volts: _ } => 0,
+            DshotReply::Current { amps: _ } => 0,
+            DshotReply::Debug {
+                channel: _,
+                value: _,
+            } => 0,
+            DshotReply::StateEvent { value: _ } => 0,
+            DshotReply::ExtendedTelemetryEnabled => 0,
+        },
+        ReplyRead::Refused(_) => 0,
+    }
+}
+
+fn count_at(run: Run, i: usize) -> u32
+    ensures { λ r. ⌜ r ≡ countAt (bankOf (run .bank)) (run .sum) i ⌝ }
+{
+    let lane = i % LANES;
+    let bank = run.bank;
+    let stats = bank.core.stats;
+    let completions = stats.lane_completions;
+    let replies = bank.replies;
+    let reply = replies[lane];
+    let others = [
+        stats.frames_started,
+        stats.frames_completed,
+        stats.dma_faults,
+        run.sum,
+    ];
+    match i / LANES {
+        0 => completions[lane],
+        1 => reply.valid,
+        2 => reply.invalid,
+        3 => reply.consecutive_invalid,
+        4 => {
+            let read = reply.reply;
+            speed_of(read)
+        }
+        _ => others[lane],
+    }
+}
+
+fn put_counts(run: Run, counts: &mut [u32])
+    requires { ⌜ length (now counts) ≡ 24 ⌝ }
+    ensures { λ r. ⌜ now (counts .exit) ≡ tabulate 24 (countAt (bankOf (run .bank)) (run .sum)) ⌝ }
+{
+    let mut i = 0;
+    while i < 24 {
+        counts[i] = count_at(run, i);
+        i += 1;
+    }
+}
+
+fn lengths_fit(cycles: usize, throttles: usize, first: usize, second: usize, counts: usize) -> bool
+    requires { ⌜ 640 * cycles ≤ 18446744073709551615 ⌝ }
+    ensures { λ r. ⌜ r ≡ fit cycles throttles first second counts ⌝ }
+{
+    if throttles != 4 * cycles {
+        return false;
+    }
+    if first != 64 {
+        return false;
+    }
+    if second != 64 {
+        return false;
+    }
+    counts == 24
+}
+
+// As many cycles of a new bank as there are captures for, 640 samples each, with four throttles each: what is left in the two buffers, and 24
+// numbers of the bank. A flag of 0 is no, any other yes.
+#[no_mangle]
+pub extern "C" fn bench_bank_cycles(
+    arr: u16,
+    zero_high: u16,
+    one_high: u16,
+    reply_sample_arr: u16,
+    bidirectional: u32,
+    present: u32,
+    mask: u16,
+    interrupts: usize,
+    throttles: &[u16],
+    captures: &[u16],
+    first: &mut [u16],
+    second: &mut [u16],
+    counts: &mut [u32],
+) -> u32
+    ensures { λ r. ⌜ r ≡ refusalNumber (asked arr «zero_high» «one_high» «reply_sample_arr» bidirectional present mask interrupts (now (throttles .entry)) (now (captures .entry)) (now (first .entry)) (now (second .entry)) (now (counts .entry))) ⌝ }
+    ensures { λ r. ⌜ now (first .exit) ≡ filled firstOf (now (first .entry)) (asked arr «zero_high» «one_high» «reply_sample_arr» bidirectional present mask interrupts (now (throttles .entry)) (now (captures .entry)) (now (first .entry)) (now (second .entry)) (now (counts .entry))) ⌝ }
+    ensures { λ r. ⌜ now (second .exit) ≡ filled secondOf (now (second .entry)) (asked arr «zero_high» «one_high» «reply_sample_arr» bidirectional present mask interrupts (now (throttles .entry)) (now (captures .entry)) (now (first .entry)) (now (second .entry)) (now (counts .entry))) ⌝ }
+    ensures { λ r. ⌜ now (counts .exit) ≡ filled countsOf (now (counts .entry)) (asked arr «zero_high» «one_high» «reply_sample_arr» bidirectional present mask interrupts (now (throttles .entry)) (now (captures .entry)) (now (first .entry)) (now (second .entry)) (now (counts .entry))) ⌝ }
+{
+    let cycles = captures.len() / WINDOWS;
+    if !lengths_fit(
+        cycles,
+        throttles.len(),
+        first.len(),
+        second.len(),
+        counts.len(),
+    ) {
+        return 13;
+    }
+    let timing = DshotTiming {
+        arr,
+        zero_high,
+        one_high,
+        reply_sample_arr,
+    };
+    let enabled = DshotBank::from_lanes(timing).enable_bidirectional(bidirectional != 0);
+    let bank = enabled.bank;
+    let run = cycles_from(
+        Run { bank, sum: 0 },
+        cycles,
+        present != 0,
+        mask,
+        interrupts,
+        throttles,
+        captures,
+        first,
+        second,
+    );
+    put_counts(run, counts);
+    0
+}
