@@ -460,7 +460,7 @@ impl DshotCommandSequence {
 // Returns true once a bounded command lease is older than its duration.
 //
 // Timestamps are a `u64` millisecond count. The subtraction wraps, so a `now_ms` read before `started_ms` - out of order - counts as expired,
-// the conservative answer, unless the wrapped difference is within the lease.
+// the conservative answer, but where the subtraction wraps into the lease.
 pub fn command_lease_expired(started_ms: u64, duration_ms: u32, now_ms: u64) -> bool
     ensures { λ r. ⌜ r ≡ leaseExpired «started_ms» «duration_ms» «now_ms» ⌝ }
 {

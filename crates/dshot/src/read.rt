@@ -19,7 +19,7 @@ ghost use Rattle.dshot.specs.Steps.{dutyAnswer, wordAnswer};
 pub enum FrameReadError {
     // The slots of a sequence are not sixteen.
     WrongLength,
-    // A duty that is neither high time, a last slot that is not 0, or a timing whose high times are equal.
+    // A duty of neither bit, no zero at the end, or a timing in which both bits have one high time.
     WrongDuty,
     // The checksum is neither the plain nor the inverted one.
     Checksum,

@@ -1,9 +1,10 @@
 // Replays records of throttles, of runs of commands and of leases.
 
-use crate::answers;
 use crate::capture;
 use crate::verdict::Verdict;
 use crate::verdict::judge;
+use case_text::widths::wide8;
+use case_text::widths::wide16;
 use dshot::CommandValue;
 use dshot::DshotCommandSequence;
 
@@ -16,7 +17,7 @@ pub(crate) fn throttle(numbers: &[u64]) -> Verdict {
     if value > 65535 {
         return Verdict::Unreadable;
     }
-    judge(answers::wide16(dshot::throttle_to_dshot(value as u16)) == numbers[2])
+    judge(wide16(dshot::throttle_to_dshot(value as u16)) == numbers[2])
 }
 
 // 17 THROTTLE*4 VALUE*4
@@ -51,7 +52,7 @@ fn is_command(value: CommandValue, given: u64, command: u64) -> bool {
             if given != 1 {
                 return false;
             }
-            answers::wide16(found) == command
+            wide16(found) == command
         }
     }
 }
@@ -87,10 +88,10 @@ fn is_run(run: DshotCommandSequence, commands: [u16; 2], index: u64, left: u64) 
     if !capture::same(&found, &commands) {
         return false;
     }
-    if answers::wide8(run.index) != index {
+    if wide8(run.index) != index {
         return false;
     }
-    answers::wide8(run.repeats_left) == left
+    wide8(run.repeats_left) == left
 }
 
 // 22 COMMAND*2 INDEX LEFT GIVEN COMMAND INDEX LEFT, where the last two are the run after the step

@@ -1,9 +1,11 @@
 // Replays the record of dshot.rs's constants.
 
-use crate::answers;
 use crate::frame_answers::Four;
 use crate::verdict::Verdict;
 use crate::verdict::judge;
+use case_text::widths::wide8;
+use case_text::widths::wide16;
+use case_text::widths::wide32;
 
 // The slots of a frame and of a sequence.
 fn slots() -> Four {
@@ -20,10 +22,10 @@ fn slots() -> Four {
 fn limits() -> Four {
     Four {
         refusal: 0,
-        first: answers::wide16(dshot::DSHOT_MAX_VALUE),
-        second: answers::wide16(dshot::DSHOT_MIN_THROTTLE),
-        third: answers::wide16(dshot::DSHOT_MAX_THROTTLE),
-        fourth: answers::wide32(dshot::DSHOT600_BITRATE_HZ),
+        first: wide16(dshot::DSHOT_MAX_VALUE),
+        second: wide16(dshot::DSHOT_MIN_THROTTLE),
+        third: wide16(dshot::DSHOT_MAX_THROTTLE),
+        fourth: wide32(dshot::DSHOT600_BITRATE_HZ),
     }
 }
 
@@ -31,10 +33,10 @@ fn limits() -> Four {
 fn commands() -> Four {
     Four {
         refusal: 0,
-        first: answers::wide16(dshot::DSHOT_CMD_SAVE_SETTINGS),
-        second: answers::wide16(dshot::DSHOT_CMD_SPIN_DIRECTION_NORMAL),
-        third: answers::wide16(dshot::DSHOT_CMD_SPIN_DIRECTION_REVERSED),
-        fourth: answers::wide8(dshot::DSHOT_COMMAND_REPEATS),
+        first: wide16(dshot::DSHOT_CMD_SAVE_SETTINGS),
+        second: wide16(dshot::DSHOT_CMD_SPIN_DIRECTION_NORMAL),
+        third: wide16(dshot::DSHOT_CMD_SPIN_DIRECTION_REVERSED),
+        fourth: wide8(dshot::DSHOT_COMMAND_REPEATS),
     }
 }
 

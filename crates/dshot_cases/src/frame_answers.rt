@@ -1,7 +1,10 @@
 // What a call on frames answers, in the numbers that a record stores.
 
-use crate::answers;
-use crate::answers::Answer;
+use case_text::answers;
+use case_text::answers::Answer;
+use case_text::widths::flag;
+use case_text::widths::wide16;
+use case_text::widths::wide32;
 use dshot::ChecksumKind;
 use dshot::DshotPacket;
 use dshot::Encoded;
@@ -49,18 +52,18 @@ fn refused(refusal: u64) -> Four {
 
 pub(crate) fn of_made(answer: PacketMade) -> Answer {
     match answer {
-        PacketMade::Packet(packet) => answers::answered(0, answers::wide16(packet.0)),
-        PacketMade::Refused(error) => answers::refused(answers::wide32(error.number())),
+        PacketMade::Packet(packet) => answers::answered(0, wide16(packet.0)),
+        PacketMade::Refused(error) => answers::refused(wide32(error.number())),
     }
 }
 
 pub(crate) fn of_packets(packets: [DshotPacket; 4]) -> Four {
     Four {
         refusal: 0,
-        first: answers::wide16(packets[0].0),
-        second: answers::wide16(packets[1].0),
-        third: answers::wide16(packets[2].0),
-        fourth: answers::wide16(packets[3].0),
+        first: wide16(packets[0].0),
+        second: wide16(packets[1].0),
+        third: wide16(packets[2].0),
+        fourth: wide16(packets[3].0),
     }
 }
 
@@ -68,22 +71,22 @@ pub(crate) fn of_timing(answer: TimingMade) -> Four {
     match answer {
         TimingMade::Timing(timing) => Four {
             refusal: 0,
-            first: answers::wide16(timing.arr),
-            second: answers::wide16(timing.zero_high),
-            third: answers::wide16(timing.one_high),
-            fourth: answers::wide16(timing.reply_sample_arr),
+            first: wide16(timing.arr),
+            second: wide16(timing.zero_high),
+            third: wide16(timing.one_high),
+            fourth: wide16(timing.reply_sample_arr),
         },
-        TimingMade::Refused(error) => refused(answers::wide32(error.number())),
+        TimingMade::Refused(error) => refused(wide32(error.number())),
     }
 }
 
 pub(crate) fn of_encoded(answer: Encoded) -> u64 {
-    answers::wide32(answer.number())
+    wide32(answer.number())
 }
 
 pub(crate) fn of_sequenced(answer: Sequenced) -> Answer {
     match answer {
-        Sequenced::First(duty) => answers::answered(0, answers::wide16(duty)),
+        Sequenced::First(duty) => answers::answered(0, wide16(duty)),
         Sequenced::WrongLength => answers::refused(13),
     }
 }
@@ -95,10 +98,6 @@ fn kind_number(kind: ChecksumKind) -> u64 {
     }
 }
 
-fn flag(set: bool) -> u64 {
-    if set { 1 } else { 0 }
-}
-
 // The value, the telemetry bit and the kind of checksum.
 pub(crate) fn of_frame(answer: FrameRead) -> Four {
     match answer {
@@ -108,11 +107,11 @@ pub(crate) fn of_frame(answer: FrameRead) -> Four {
             checksum,
         } => Four {
             refusal: 0,
-            first: answers::wide16(value),
+            first: wide16(value),
             second: flag(telemetry),
             third: kind_number(checksum),
             fourth: 0,
         },
-        FrameRead::Refused(error) => refused(answers::wide32(error.number())),
+        FrameRead::Refused(error) => refused(wide32(error.number())),
     }
 }

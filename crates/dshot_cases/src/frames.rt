@@ -1,10 +1,10 @@
 // Replays records of packets and of timings, and of the reader of packets.
 
-use crate::answers;
 use crate::capture;
 use crate::frame_answers;
 use crate::verdict::Verdict;
 use crate::verdict::judge;
+use case_text::widths::wide16;
 use dshot::DshotPacket;
 use dshot::DshotTiming;
 use dshot::MotorPackets;
@@ -51,7 +51,7 @@ pub(crate) fn packet(numbers: &[u64], inverted: bool) -> Verdict {
         return Verdict::Unreadable;
     }
     let packet = packet_of(inverted, value as u16, telemetry == 1);
-    judge(answers::wide16(packet.0) == numbers[3])
+    judge(wide16(packet.0) == numbers[3])
 }
 
 // The lane that is asked for telemetry; none where `asked` is 0.

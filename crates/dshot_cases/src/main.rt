@@ -18,6 +18,8 @@ mod verdict;
 
 use crate::report::KINDS;
 use crate::verdict::Verdict;
+use case_text::numbers::find;
+use case_text::widths::one_more;
 use libc::STDIN_FILENO;
 
 // Replays the record of a line, if it has one; false where the run ends there.
@@ -43,8 +45,8 @@ fn replay_list(text: &[u8]) {
     let mut number: u64 = 0;
     let mut at: usize = 0;
     while at < text.len() {
-        let end = numbers::find(text, at, b'\n');
-        number = report::one_more(number);
+        let end = find(text, at, b'\n');
+        number = one_more(number);
         if !replay_line(&text[at..end], number, &mut compared, &mut differing) {
             return;
         }

@@ -14,6 +14,8 @@ use crate::frames;
 use crate::sequences;
 use crate::verdict::Verdict;
 use crate::verdict::judge;
+use case_text::answers::of_read;
+use case_text::widths::wide32;
 use dshot_reply::DshotReply;
 use dshot_reply::simulate;
 
@@ -27,7 +29,7 @@ fn transitions_for(numbers: &[u64]) -> Verdict {
         return Verdict::Unreadable;
     }
     let word = dshot_reply::reply_transitions_for(value as u16);
-    judge(answers::wide32(word) == numbers[2])
+    judge(wide32(word) == numbers[2])
 }
 
 // 2 WORD REFUSAL VALUE
@@ -56,7 +58,7 @@ fn value_read(numbers: &[u64]) -> Verdict {
     if edt > 1 {
         return Verdict::Unreadable;
     }
-    let answer = answers::of_read(DshotReply::from_value(value as u16, edt == 1));
+    let answer = of_read(DshotReply::from_value(value as u16, edt == 1));
     judge(answer.is(numbers[3], numbers[4], numbers[5]))
 }
 
@@ -102,7 +104,7 @@ fn sampled(numbers: &[u64]) -> Verdict {
     }
     let n = read.samples;
     let found = dshot_reply::decode_sampled_reply(&samples[0..n], mask as u16, edt == 1);
-    let answer = answers::of_read(found);
+    let answer = of_read(found);
     judge(answer.is(numbers[end], numbers[end + 1], numbers[end + 2]))
 }
 

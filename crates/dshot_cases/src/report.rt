@@ -1,15 +1,11 @@
 // Counts the answers and prints what was found.
 
 use crate::verdict::Verdict;
+use case_text::widths::one_more;
 use libc::STDOUT_FILENO;
 
 // The kinds of records, and one more: the kinds count from 1.
 pub const KINDS: usize = 24;
-
-// One more, up to the largest number, which no list comes near.
-pub(crate) fn one_more(n: u64) -> u64 {
-    if n < u64::MAX { n + 1 } else { n }
-}
 
 // Counts an answer of a kind. The first count is of all kinds.
 fn count(counts: &mut [u64; KINDS], kind: u64) {

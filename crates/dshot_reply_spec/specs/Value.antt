@@ -35,7 +35,7 @@ readingOf half d =
     (pick (eqb half 7) (state d)
     (debug (half - 3) d))))
 
--- 0xE00 with EDT off is the acknowledgement; with EDT off, or a type nibble that is odd or 0, a value is a speed
+-- with EDT off, 0xE00 acknowledges it, and every other value is a speed; with EDT on, those whose type nibble is odd or 0 are
 unfoldable pub replyOf : ℕ → Bool → Answer Reading
 replyOf value extended =
     let v = value % 4096 in

@@ -24,7 +24,7 @@ module _ (started duration now : ℕ) (small : started < 2 ^ 64) (clock : now < 
   unfolding leaseExpired
   later-expired h = ap (ltb duration) (passed (omega arith)) ∙ lt-ltb duration (now - started) (omega arith)
 
-  -- an earlier clock is expired, unless the wrapped difference is within the lease
+  -- a clock before the start counts as expired, but where the subtraction wraps into the lease
   pub earlier-expired : now < started → started + duration < 2 ^ 64 + now → leaseExpired started duration now ≡ true
   unfolding leaseExpired
   earlier-expired h l = ap (ltb duration) (wrapped h) ∙ lt-ltb duration (now + (2 ^ 64 - started)) (omega arith)

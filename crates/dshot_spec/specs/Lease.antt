@@ -10,6 +10,6 @@ use lib.Dec.{ltb}
 abbrev pub elapsed : ℕ → ℕ → ℕ
 elapsed started now = (now + (2 ^ 64 - started)) % 2 ^ 64
 
--- an earlier clock is expired, unless the wrapped difference is within the lease
+-- a clock before the start counts as expired, but where the subtraction wraps into the lease
 unfoldable pub leaseExpired : ℕ → ℕ → ℕ → Bool
 leaseExpired started duration now = ltb duration (elapsed started now)

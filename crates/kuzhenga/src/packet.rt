@@ -4,7 +4,6 @@ use crate::slots;
 use dshot::ChecksumKind;
 use dshot::DshotPacket;
 use dshot::MotorPackets;
-use dshot::MotorValues;
 use dshot::PacketMade;
 use dshot::TelemetryLane;
 ghost use mathlib.Core.Path.{_≡_};
@@ -59,20 +58,6 @@ pub extern "C" fn kuzhenga_packet_try_from_value(
     }
 }
 
-// The packets of four motors, with either checksum.
-fn packets_of(kind: ChecksumKind, values: MotorValues, telemetry_lane: usize) -> MotorPackets
-    ensures { λ r. ⌜ words r ≡ motorPackets 4 (kindOf kind) values (lane «telemetry_lane») ⌝ }
-{
-    match kind {
-        ChecksumKind::Plain => {
-            dshot::four_motor_packets(values, TelemetryLane::Lane(telemetry_lane))
-        }
-        ChecksumKind::Inverted => {
-            dshot::four_motor_bidirectional_packets(values, TelemetryLane::Lane(telemetry_lane))
-        }
-    }
-}
-
 // Puts the words of four packets into four slots.
 fn put_words(packets: MotorPackets, out: &mut [u16])
     requires { ⌜ length (now out) ≡ 4 ⌝ }
@@ -96,10 +81,12 @@ fn put_packets(
     if packets.len() != 4 {
         return 13;
     }
-    put_words(
-        packets_of(kind, slots::four_values(values), telemetry_lane),
-        packets,
+    let made = dshot::packets_of_kind(
+        kind,
+        slots::four_values(values),
+        TelemetryLane::Lane(telemetry_lane),
     );
+    put_words(made, packets);
     0
 }
 

@@ -20,8 +20,8 @@ returns-2 c = refused-so (λ (l : List ℕ). l) _ (asked-so _ 4 _ (c .before .if
 four-values-requires : tie.Need-four-values-requires
 four-values-requires c κs = search needs
 
-packets-of-requires : tie.Need-packets-of-requires
-packets-of-requires c κs = search needs
+packets-of-kind-requires : tie.Need-packets-of-kind-requires
+packets-of-kind-requires c κs = search needs
 
 put-words-requires : tie.Need-put-words-requires
 put-words-requires c κs = search needs
@@ -33,7 +33,7 @@ returns-3 : tie.Need-returns-3
 returns-3 c =
     let a = c .before .before .before .before .before .before .before .before .before .before .args in
     given-so (λ (l : List ℕ). l) _ (asked-so _ 4 _ (c .before .before .before .before .before .before .before .if1 .left) ∙ asked-so _ 4 _ (c .before .before .before .before .before .before .if2 .left))
-    (c .before .before .put-words .ensures ∙ c .before .before .before .before .packets-of .ensures
+    (c .before .before .put-words .ensures ∙ c .before .before .before .before .packets-of-kind .ensures
     ∙ ap (λ (vs : List ℕ). motorPackets 4 (kindOf (a .kind)) vs (lane (a .telemetry-lane))) (c .before .before .before .before .before .four-values .ensures))
 
 pub put-packets-spec : {M : Type 1} → statement M
@@ -43,7 +43,7 @@ put-packets-spec =
     returns
     returns-2
     four-values-requires
-    packets-of-requires
+    packets-of-kind-requires
     put-words-requires
     same-length
     returns-3)

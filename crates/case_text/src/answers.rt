@@ -1,0 +1,95 @@
+// A reply as the three numbers that a list stores.
+
+use crate::widths::wide8;
+use crate::widths::wide32;
+use dshot_reply::DshotReply;
+use dshot_reply::DshotReplyError;
+use dshot_reply::ReplyRead;
+ghost use mathlib.Core.Path.{_≡_};
+ghost use mathlib.Core.Bool.{_&&_};
+ghost use lib.Dec.{eqb};
+ghost use Rattle.dshot_reply_spec.specs.Answer.{refusalNumber};
+ghost use Rattle.dshot_reply.specs.Answers.{errorNumber, reading, replyAnswer};
+ghost use Rattle.case_text.specs.Answers.{debugKind, kindOf, numberOf, ofGiven};
+
+// The number of a refusal, and zeros; or 0, the kind of a reading (0 where the call gives none), and the value.
+pub struct Answer {
+    pub refusal: u64,
+    pub kind: u64,
+    pub number: u64,
+}
+
+impl Answer {
+    pub fn is(self, refusal: u64, kind: u64, number: u64) -> bool
+        ensures { λ r. ⌜ r ≡ (eqb (self .refusal) refusal && (eqb (self .kind) kind && eqb (self .number) number)) ⌝ }
+    {
+        if self.refusal != refusal {
+            return false;
+        }
+        if self.kind != kind {
+            return false;
+        }
+        self.number == number
+    }
+}
+
+pub fn answered(kind: u64, number: u64) -> Answer
+    ensures { λ r. ⌜ (r .refusal ≡ 0) × (r .kind ≡ kind) × (r .number ≡ number) ⌝ }
+{
+    Answer {
+        refusal: 0,
+        kind,
+        number,
+    }
+}
+
+pub fn refused(refusal: u64) -> Answer
+    ensures { λ r. ⌜ (r .refusal ≡ refusal) × (r .kind ≡ 0) × (r .number ≡ 0) ⌝ }
+{
+    Answer {
+        refusal,
+        kind: 0,
+        number: 0,
+    }
+}
+
+pub fn refused_by(error: DshotReplyError) -> Answer
+    ensures { λ r. ⌜ (r .refusal ≡ errorNumber error) × (r .kind ≡ 0) × (r .number ≡ 0) ⌝ }
+{
+    refused(wide32(dshot_reply::error_number(error)))
+}
+
+// The library has channels 1 to 3. Any other gets a kind that no list has.
+fn debug_kind(channel: u8) -> u64
+    ensures { λ r. ⌜ r ≡ debugKind channel ⌝ }
+{
+    match channel {
+        1 => 4,
+        2 => 5,
+        3 => 6,
+        _ => u64::MAX,
+    }
+}
+
+fn of_reply(reply: DshotReply) -> Answer
+    ensures { λ r. ⌜ (r .refusal ≡ 0) × (r .kind ≡ kindOf (reading reply)) × (r .number ≡ numberOf (reading reply)) ⌝ }
+{
+    match reply {
+        DshotReply::Erpm { erpm_div100 } => answered(0, wide32(erpm_div100)),
+        DshotReply::Temperature { celsius } => answered(1, wide8(celsius)),
+        DshotReply::Voltage { quarter_volts } => answered(2, wide8(quarter_volts)),
+        DshotReply::Current { amps } => answered(3, wide8(amps)),
+        DshotReply::Debug { channel, value } => answered(debug_kind(channel), wide8(value)),
+        DshotReply::StateEvent { value } => answered(7, wide8(value)),
+        DshotReply::ExtendedTelemetryEnabled => answered(8, 0),
+    }
+}
+
+pub fn of_read(answer: ReplyRead) -> Answer
+    ensures { λ r. ⌜ (r .refusal ≡ refusalNumber (replyAnswer answer)) × (r .kind ≡ ofGiven kindOf (replyAnswer answer)) × (r .number ≡ ofGiven numberOf (replyAnswer answer)) ⌝ }
+{
+    match answer {
+        ReplyRead::Reply(reply) => of_reply(reply),
+        ReplyRead::Refused(error) => refused_by(error),
+    }
+}
