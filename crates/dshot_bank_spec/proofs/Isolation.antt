@@ -1,4 +1,4 @@
--- One lane's captures show in that lane's reply and reply counts alone, over every list of calls and for every count of lanes.
+-- One lane's captures show in that lane's reply and reply counts alone, and looks change nothing, over every list of calls and for every count of lanes.
 -- Assumes nothing.
 use mathlib.Core.Path.{_≡_, _∙_, refl, sym, ap}
 use Prim.Native.Nat.{ℕ, _+_, _*_, _<_, _≤_}
@@ -22,6 +22,7 @@ use Rattle.dshot_bank_spec.specs.Lists.{trace, fresh, hide, hideState, h
 use Rattle.dshot_bank_spec.specs.Claims.{Isolated}
 use Rattle.dshot_bank_spec.proofs.Hidden.{hidden-replies}
 use Rattle.dshot_bank_spec.proofs.LaneLaws.{set-tabulate, map-set}
+use Rattle.dshot_bank_spec.proofs.Refusals.{looks-leave-out}
 use Rattle.dshot_bank_spec.proofs.Service.{serviceSend, serviceOpen}
 
 -- ---- the windows
@@ -206,4 +207,4 @@ pub isolated-from : (n lane : ℕ) (start : State) (calls calls′ : List Call) 
 isolated-from n lane start calls calls′ h = trace-alike n lane h start start refl
 
 pub isolated : Isolated
-isolated n lane timing buffers = isolated-from n lane (fresh n timing buffers)
+isolated = record { captures = λ n lane timing buffers. isolated-from n lane (fresh n timing buffers); looks = λ n timing buffers. looks-leave-out n (fresh n timing buffers) }

@@ -1,4 +1,4 @@
--- What a refused call and a call that only looks leave as it was, and that a list goes on as if its refused calls were not in it.
+-- What a refused call and a call that only looks leave as it was, and that a list goes on as if they were not in it.
 -- Assumes nothing.
 use mathlib.Core.Path.{_≡_, _∙_, refl, sym, ap}
 use Prim.Native.Nat.{ℕ}
@@ -12,7 +12,7 @@ use Rattle.dshot_reply_spec.specs.Answer as Reply
 use Rattle.dshot_bank_spec.specs.State.{Core}
 use Rattle.dshot_bank_spec.specs.Commands.{enableBidirectional, commandThrottles, commandSpecial, requestTelemetry}
 use Rattle.dshot_bank_spec.specs.Calls.{Call, enable-bidirectional, command-stop, command-throttles, command-special, request-telemetry, cancel-telemetry-request, take-telemetry-request-sent, service-call, on-dma-interrupt, take-replies, is-bidirectional, is-faulted, stats, requested-values, command-pending, reply-stats, sending, lend, refused, State, Stepped, told, commanded, act, portRefusal, step}
-use Rattle.dshot_bank_spec.specs.Lists.{trace, run, sourceRun, isLook, isRefused, accepted, acceptedOf}
+use Rattle.dshot_bank_spec.specs.Lists.{trace, run, sourceRun, isLook, acting, actingOf, isRefused, accepted, acceptedOf}
 use Rattle.dshot_bank_spec.specs.Claims.{LooksKeep, RefusalsKeep, RefusalsLeaveOut}
 use Rattle.dshot_bank_spec.proofs.LaneLaws.{either, under}
 
@@ -81,7 +81,7 @@ act-looks n s (lend buffers) e = cc
 pub looks-keep : LooksKeep
 looks-keep n s c e = either-step n s c (λ (r : Stepped). r .state ≡ s) (act-looks n s c e) refl
 
--- ---- a list without its refused calls
+-- ---- a list without its refused calls, and one without its calls that only look
 
 -- a call that is not refused is what the source does
 pub accepted-acts : (n : ℕ) (s : State) (c : Call) → isRefused (step n s c .answer) ≡ false → step n s c ≡ act n s c
@@ -95,17 +95,23 @@ accepted-port n s c e =
     let b = eqb k 0 in
     eqb-true k 0 (not-second b (under (λ (r : Stepped). isRefused (r .answer)) b (act n s c) (told s (refused k)) ∙ e) true≢false .0)
 
--- b: whether the first call is refused
-one-left-out : (n : ℕ) (s : State) (c : Call) (cs : List Call) (b : Bool) → (b ≡ true → step n s c .state ≡ s)
-    → ((t : State) → trace n t (accepted n t cs) ≡ acceptedOf (trace n t cs))
-    → trace n s (pick b (accepted n s cs) (c ∷ accepted n (step n s c .state) cs))
-    ≡ pick b (acceptedOf (trace n (step n s c .state) cs)) (step n s c ∷ acceptedOf (trace n (step n s c .state) cs))
-one-left-out n s c cs true k h = h s ∙ ap (λ (t : State). acceptedOf (trace n t cs)) (sym (k refl))
-one-left-out n s c cs false k h = ap (λ (l : List Stepped). step n s c ∷ l) (h (step n s c .state))
+-- b: whether the first call is left out; rest: what is left of the calls after it, and left: of their trace, by the state that they start at
+one-left-out : (n : ℕ) (s : State) (c : Call) (b : Bool) (rest : State → List Call) (left : State → List Stepped) → (b ≡ true → step n s c .state ≡ s)
+    → ((t : State) → trace n t (rest t) ≡ left t)
+    → trace n s (pick b (rest s) (c ∷ rest (step n s c .state))) ≡ pick b (left (step n s c .state)) (step n s c ∷ left (step n s c .state))
+one-left-out n s c true rest left k h = h s ∙ ap left (sym (k refl))
+one-left-out n s c false rest left k h = ap (λ (l : List Stepped). step n s c ∷ l) (h (step n s c .state))
 
 pub refusals-leave-out : RefusalsLeaveOut
 refusals-leave-out n s [] = refl
-refusals-leave-out n s (c ∷ cs) = one-left-out n s c cs (isRefused (step n s c .answer)) (refusals-keep n s c) (λ t. refusals-leave-out n t cs)
+refusals-leave-out n s (c ∷ cs) =
+    one-left-out n s c (isRefused (step n s c .answer)) (λ t. accepted n t cs) (λ t. acceptedOf (trace n t cs)) (refusals-keep n s c) (λ t. refusals-leave-out n t cs)
+
+-- without its calls that only look a list has the rest of its trace
+pub looks-leave-out : (n : ℕ) (s : State) (calls : List Call) → trace n s (acting calls) ≡ actingOf calls (trace n s calls)
+looks-leave-out n s [] = refl
+looks-leave-out n s (c ∷ cs) =
+    one-left-out n s c (isLook c) (λ t. acting cs) (λ t. actingOf cs (trace n t cs)) (looks-keep n s c) (λ t. looks-leave-out n t cs)
 
 -- b: whether the first call is refused
 one-run : (n : ℕ) (s : State) (c : Call) (cs : List Call) (b : Bool) → (b ≡ true → step n s c .state ≡ s) → (b ≡ false → step n s c ≡ act n s c)

@@ -1,4 +1,6 @@
 -- One call of a bank, whichever it is: refused by the port, or what the source does.
+-- Stands for the calls of `DshotBank` of crates/ferrowasp-stm32-critical/src/dshot_bank.rs (Eirik2020/ferro-wasp, commit 9cb8aca1a6, Copyright (c)
+-- 2026 Kaldstrand, Apache-2.0), changed: rewritten as definitions; the looks and `take_replies` are transcribed here, the others in their own files.
 -- Assumes nothing.
 use Prim.Native.Nat.{ℕ, _*_}
 use mathlib.Core.Bool.{Bool, false, not}

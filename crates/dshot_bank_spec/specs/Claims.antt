@@ -20,15 +20,17 @@ use Rattle.dshot_bank_spec.specs.State.{Buffers}
 use Rattle.dshot_bank_spec.specs.Commands.{noReplies}
 use Rattle.dshot_bank_spec.specs.Replies.{window, readWindow, countReply}
 use Rattle.dshot_bank_spec.specs.Calls.{Call, service-call, State, Stepped, serviceFits, step}
-use Rattle.dshot_bank_spec.specs.Lists.{trace, run, sourceRun, fresh, isRefused, isLook, accepted, acceptedOf, hide, AlikeAll}
+use Rattle.dshot_bank_spec.specs.Lists.{trace, run, sourceRun, fresh, isRefused, isLook, acting, actingOf, accepted, acceptedOf, hide, AlikeAll}
 
 -- 1: two lists alike but in one lane's captures give, after each call, the same answer, bank and buffers, with that lane's reply and reply counts
--- hidden
-abbrev pub Isolated : Type 0
-Isolated = (n lane : ℕ) (timing : Timing) (buffers : Buffers) (calls calls′ : List Call) → AlikeAll lane calls calls′
-    → map (hide lane) (trace n (fresh n timing buffers) calls) ≡ map (hide lane) (trace n (fresh n timing buffers) calls′)
+-- hidden; and the calls that only look change nothing, wherever they stand: without them a list has the rest of its trace
+pub record Isolated : Type 0 where
+  pub captures : (n lane : ℕ) (timing : Timing) (buffers : Buffers) (calls calls′ : List Call) → AlikeAll lane calls calls′
+      → map (hide lane) (trace n (fresh n timing buffers) calls) ≡ map (hide lane) (trace n (fresh n timing buffers) calls′)
+  pub looks : (n : ℕ) (timing : Timing) (buffers : Buffers) (calls : List Call)
+      → trace n (fresh n timing buffers) (acting calls) ≡ actingOf calls (trace n (fresh n timing buffers) calls)
 
--- a call that only looks leaves all as it was, wherever it stands
+-- a call that only looks leaves all as it was
 abbrev pub LooksKeep : Type 0
 LooksKeep = (n : ℕ) (s : State) (c : Call) → isLook c ≡ true → step n s c .state ≡ s
 

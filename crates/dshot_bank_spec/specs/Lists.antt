@@ -32,7 +32,7 @@ abbrev pub sourceRun : ℕ → State → List Call → State
 sourceRun n s [] = s
 sourceRun n s (c ∷ cs) = sourceRun n (act n s c .state) cs
 
--- where a list of demand 3 starts: a bank that `from_lanes` made and `enable_bidirectional` turned, and two buffers
+-- where a list of demand 3 starts: at a new bank, set to bidirectional, with two buffers
 abbrev pub fresh : ℕ → Timing → Buffers → State
 fresh n timing buffers = act n (record { bank = fromLanes n timing; buffers = buffers }) (enable-bidirectional true) .state
 
@@ -57,6 +57,17 @@ isLook command-pending = true
 isLook reply-stats = true
 isLook (sending motor) = true
 isLook (lend buffers) = false
+
+-- a list without its calls that only look
+abbrev pub acting : List Call → List Call
+acting [] = []
+acting (c ∷ cs) = pick (isLook c) (acting cs) (c ∷ acting cs)
+
+-- what is left of a list's trace without them
+abbrev pub actingOf : List Call → List Stepped → List Stepped
+actingOf [] rs = []
+actingOf (c ∷ cs) [] = []
+actingOf (c ∷ cs) (r ∷ rs) = pick (isLook c) (actingOf cs rs) (r ∷ actingOf cs rs)
 
 -- ---- refused calls
 
@@ -83,7 +94,7 @@ abbrev pub acceptedOf : List Stepped → List Stepped
 acceptedOf [] = []
 acceptedOf (r ∷ rs) = pick (isRefused (r .answer)) (acceptedOf rs) (r ∷ acceptedOf rs)
 
--- ---- what one lane's captures may show in: its reply, as stored or as handed out, and its three counts
+-- ---- what one lane's captures may show in: the lane's record, and what is told of it
 
 abbrev pub hideReplies : ℕ → List LaneReply → List LaneReply
 hideReplies lane l = set l lane noReplies
