@@ -1,15 +1,19 @@
 -- The definitions that say what the code's state and answers stand for are injective, so the equation of a promise determines bank and answer.
 -- Assumes nothing.
 use mathlib.Core.Path.{_≡_, _∙_, refl, sym, ap}
+use mathlib.Core.Bool.{true, false}
 use mathlib.Core.List.{List, [], _∷_, map}
 use mathlib.Core.Option.{Option, none, some}
-use Prim.Native.Nat.{ℕ}
+use Prim.Native.Nat.{ℕ, zero, suc}
 use native.Mathlib.Omega.{arith}
 use lib.Dec.{eqb}
 use lib.ListN.{length, getD, drop}
 use Rattle.dshot_reply.proofs.Injective.{replyAnswer-injective}
+use Rattle.dshot_reply.specs.Answers.{replyAnswer}
 use Rattle.dshot_reply_spec.proofs.Inverse.{injective}
 use Rattle.dshot_reply_spec.specs.Answer.{pick}
+use Rattle.dshot_reply_spec.specs.Answer as Reply
+use Rattle.dshot_reply_spec.specs.Value.{Reading, erpm, temp, volt, amp, debug, state, edt}
 use Rattle.dshot.proofs.Injective.{timingOf-injective}
 use Rattle.dshot_bank_spec.specs.State as Spec
 use Rattle.dshot_bank_spec.specs.Service.{ServiceEvent, frame-started, busy, lease-expired, faulted}
@@ -21,11 +25,12 @@ use Rattle.dshot_bank.specs.declared.DshotMotor.{DshotMotor}
 use Rattle.dshot_bank.specs.declared.DshotMotor.the-variants.{Motor1, Motor2, Motor3, Motor4}
 use Rattle.dshot_bank.specs.declared.MotorChoice.{MotorChoice}
 use Rattle.dshot_bank.specs.declared.MotorChoice.the-variants as Choice
-use Rattle.dshot_bank.specs.declared.Lease.{Lease}
-use Rattle.dshot_bank.specs.declared.Lease.the-variants as Leased
 use Rattle.dshot_bank.specs.declared.CommandRun.{CommandRun}
 use Rattle.dshot_bank.specs.declared.CommandRun.the-variants as Run
+use Rattle.dshot_bank.specs.declared.DshotStats.{DshotStats}
 use Rattle.dshot_bank.specs.declared.Core.{Core}
+use Rattle.dshot_bank.specs.declared.StoredReply.{StoredReply}
+use Rattle.dshot_bank.specs.declared.StoredReply.the-variants as Stored
 use Rattle.dshot_bank.specs.declared.LaneReply.{LaneReply}
 use Rattle.dshot_bank.specs.declared.DshotBank.{DshotBank}
 use Rattle.dshot_bank.specs.declared.commands.DshotInitError.the-variants.{RepliesUnsupported}
@@ -49,11 +54,21 @@ use Rattle.dshot_bank.specs.declared.interrupt.DshotInterruptEvent.{Dsho
 use Rattle.dshot_bank.specs.declared.interrupt.DshotInterruptEvent.the-variants as InterruptEvents
 use Rattle.dshot_bank.specs.declared.interrupt.Interrupt.{Interrupt}
 use Rattle.dshot_bank.specs.declared.interrupt.Interrupt.the-variants as Interrupts
-use Rattle.dshot_bank.specs.Answers.{enabledAnswer, throttledAnswer, specialAnswer, requestedAnswer}
+use Rattle.dshot_bank.specs.declared.looks.View.{View}
+use Rattle.dshot_bank.specs.declared.looks.View.the-variants as Views
+use Rattle.dshot_bank.specs.declared.replies.TakenReply.{TakenReply}
+use Rattle.dshot_bank.specs.declared.replies.DshotReplyStats.{DshotReplyStats}
+use Rattle.dshot_bank.specs.Answers.{enabledAnswer, throttledAnswer, specialAnswer, requestedAnswer, takenAnswer, replyStatsOf}
+use Rattle.dshot_bank.specs.Views.{viewAnswer}
 use Rattle.dshot_bank.specs.Orders.{ordersIn, Just}
-use Rattle.dshot_bank.specs.Serves.{serviceAnswer}
-use Rattle.dshot_bank.specs.Interrupts.{interruptAnswer}
-use Rattle.dshot_bank.specs.States.{motorOf, choiceOf, leaseOf, commandSequenceOf, coreOf, laneReplyOf, bankOf}
+use Rattle.dshot_bank.specs.Serves.{serviceEventOf, serviceAnswer}
+use Rattle.dshot_bank.specs.Interrupts.{interruptEventOf, interruptAnswer}
+use Rattle.dshot_bank.proofs.LeaseLaws.{lease-held}
+use Rattle.dshot_bank.specs.States.{motorOf, choiceOf, leaseOf, commandSequenceOf, statsOf, coreOf, storedAnswer, laneReplyOf, bankOf}
+
+-- two constructors are not equal
+differ : {A : Type 0} → _≡_ {A = ℕ} 0 1 → A
+differ z = absurd (omega arith)
 
 -- ---- motors, leases and runs
 
@@ -82,16 +97,16 @@ choice-back (Choice.Some m) = ap Choice.Some (motor-back m)
 pub choiceOf-injective : (c d : MotorChoice) → choiceOf c ≡ choiceOf d → c ≡ d
 choiceOf-injective = injective choiceOf choiceBack choice-back
 
-leaseBack : Option ℕ → Lease
-leaseBack none = Leased.None
-leaseBack (some n) = Leased.Some n
+leaseBack : Option ℕ → ℕ
+leaseBack none = 0
+leaseBack (some n) = suc n
 
-lease-back : (l : Lease) → leaseBack (leaseOf l) ≡ l
+lease-back : (l : ℕ) → leaseBack (leaseOf l) ≡ l
 unfolding leaseBack
-lease-back Leased.None = refl
-lease-back (Leased.Some n) = refl
+lease-back zero = refl
+lease-back (suc n) = ap leaseBack (lease-held n (suc n) (omega arith))
 
-pub leaseOf-injective : (l m : Lease) → leaseOf l ≡ leaseOf m → l ≡ m
+pub leaseOf-injective : (l m : ℕ) → leaseOf l ≡ leaseOf m → l ≡ m
 leaseOf-injective = injective leaseOf leaseBack lease-back
 
 runBack : Option Spec.MotorRun → CommandRun
@@ -108,43 +123,75 @@ commandSequenceOf-injective = injective commandSequenceOf runBack run-back
 
 -- ---- the bank
 
+pub statsOf-injective : (a b : DshotStats) → statsOf a ≡ statsOf b → a ≡ b
+statsOf-injective a b e = λ j. record {
+  «frames_started» = e j .framesStarted;
+  «frames_completed» = e j .framesCompleted;
+  «lane_completions» = e j .laneCompletions;
+  «busy_skips» = e j .busySkips;
+  «lease_expiries» = e j .leaseExpiries;
+  «frame_timeouts» = e j .frameTimeouts;
+  «dma_faults» = e j .dmaFaults;
+  «spurious_interrupts» = e j .spuriousInterrupts;
+}
+
 pub coreOf-injective : (a b : Core) → coreOf a ≡ coreOf b → a ≡ b
 coreOf-injective a b e =
+    let stats = statsOf-injective (a .stats) (b .stats) (ap (λ (q : Spec.Core). q .stats) e) in
     let timing = timingOf-injective (a .timing) (b .timing) (ap (λ (q : Spec.Core). q .timing) e) in
-    let lease = leaseOf-injective (a .demand .«lease_duration_ms») (b .demand .«lease_duration_ms») (ap (λ (q : Spec.Core). q .demand .leaseDurationMs) e) in
+    let lease = leaseOf-injective (a .demand .«lease_over_after_ms») (b .demand .«lease_over_after_ms») (ap (λ (q : Spec.Core). q .demand .leaseDurationMs) e) in
     let request = choiceOf-injective (a .requests .«telemetry_request») (b .requests .«telemetry_request») (ap (λ (q : Spec.Core). q .telemetry .request) e) in
     let sent = choiceOf-injective (a .requests .«telemetry_request_sent») (b .requests .«telemetry_request_sent») (ap (λ (q : Spec.Core). q .telemetry .requestSent) e) in
     let run = commandSequenceOf-injective (a .requests .«command_sequence») (b .requests .«command_sequence») (ap (λ (q : Spec.Core). q .commandSequence) e) in
     λ j. record {
       timing = timing j;
-      demand = record { «requested_values» = e j .demand .requestedValues; «lease_started_ms» = e j .demand .leaseStartedMs; «lease_duration_ms» = lease j };
+      demand = record { «requested_values» = e j .demand .requestedValues; «lease_started_ms» = e j .demand .leaseStartedMs; «lease_over_after_ms» = lease j };
       requests = record { «telemetry_request» = request j; «telemetry_request_sent» = sent j; «command_sequence» = run j };
       frame = record {
-        «frame_started_ms» = e j .frame .startedMs;
+        «in_second» = e j .frame .inSecond;
         «completion_mask» = e j .frame .completionMask;
+        «frame_started_ms» = e j .frame .startedMs;
         busy = e j .frame .busy;
         faulted = e j .frame .faulted;
         bidirectional = e j .frame .bidirectional;
         receiving = e j .frame .receiving;
         «replies_waiting» = e j .frame .repliesWaiting;
         «replies_held» = e j .frame .repliesHeld;
-        «in_second» = e j .frame .inSecond;
       };
-      stats = record {
-        «frames_started» = e j .stats .framesStarted;
-        «frames_completed» = e j .stats .framesCompleted;
-        «lane_completions» = e j .stats .laneCompletions;
-        «busy_skips» = e j .stats .busySkips;
-        «lease_expiries» = e j .stats .leaseExpiries;
-        «frame_timeouts» = e j .stats .frameTimeouts;
-        «dma_faults» = e j .stats .dmaFaults;
-        «spurious_interrupts» = e j .stats .spuriousInterrupts;
-      };
+      stats = stats j;
     }
+
+storedBack : Reply.Answer Reading → StoredReply
+storedBack (Reply.given (erpm n)) = Stored.Erpm n
+storedBack (Reply.given (temp n)) = Stored.Temperature n
+storedBack (Reply.given (volt n)) = Stored.Voltage n
+storedBack (Reply.given (amp n)) = Stored.Current n
+storedBack (Reply.given (debug channel n)) = Stored.Debug channel n
+storedBack (Reply.given (state n)) = Stored.StateEvent n
+storedBack (Reply.given edt) = Stored.ExtendedTelemetryEnabled
+storedBack (Reply.refused n) = pick (eqb n 7) Stored.NoReply (pick (eqb n 8) Stored.Overlong (pick (eqb n 9) Stored.InvalidSymbol (pick (eqb n 10) Stored.Checksum Stored.ZeroPeriod)))
+
+stored-back : (r : StoredReply) → storedBack (storedAnswer r) ≡ r
+unfolding storedBack
+stored-back (Stored.Erpm n) = refl
+stored-back (Stored.Temperature n) = refl
+stored-back (Stored.Voltage n) = refl
+stored-back (Stored.Current n) = refl
+stored-back (Stored.Debug channel n) = refl
+stored-back (Stored.StateEvent n) = refl
+stored-back Stored.ExtendedTelemetryEnabled = refl
+stored-back Stored.NoReply = refl
+stored-back Stored.Overlong = refl
+stored-back Stored.InvalidSymbol = refl
+stored-back Stored.Checksum = refl
+stored-back Stored.ZeroPeriod = refl
+
+pub storedAnswer-injective : (r s : StoredReply) → storedAnswer r ≡ storedAnswer s → r ≡ s
+storedAnswer-injective = injective storedAnswer storedBack stored-back
 
 pub laneReplyOf-injective : (a b : LaneReply) → laneReplyOf a ≡ laneReplyOf b → a ≡ b
 laneReplyOf-injective a b e =
-    let reply = replyAnswer-injective (a .reply) (b .reply) (ap (λ (q : Spec.LaneReply). q .reply) e) in
+    let reply = storedAnswer-injective (a .reply) (b .reply) (ap (λ (q : Spec.LaneReply). q .reply) e) in
     λ j. record { reply = reply j; valid = e j .valid; invalid = e j .invalid; «consecutive_invalid» = e j .consecutiveInvalid }
 
 -- a list by its entries
@@ -235,65 +282,63 @@ serviceEventBack busy = ServiceEvents.Busy
 serviceEventBack lease-expired = ServiceEvents.LeaseExpired
 serviceEventBack faulted = ServiceEvents.Faulted
 
+service-event-back : (e : DshotServiceEvent) → serviceEventBack (serviceEventOf e) ≡ e
+unfolding serviceEventBack
+service-event-back ServiceEvents.FrameStarted = refl
+service-event-back ServiceEvents.Busy = refl
+service-event-back ServiceEvents.LeaseExpired = refl
+service-event-back ServiceEvents.Faulted = refl
+
+pub serviceAnswer-injective : (a b : Service) (l m : List Order) → serviceAnswer a l ≡ serviceAnswer b m → a ≡ b
+serviceAnswer-injective (Services.Event e) (Services.Event f) l m h = ap Services.Event (injective serviceEventOf serviceEventBack service-event-back e f (cc))
+serviceAnswer-injective (Services.Event e) Services.WrongLength l m h = differ (cc)
+serviceAnswer-injective Services.WrongLength (Services.Event f) l m h = differ (cc)
+serviceAnswer-injective Services.WrongLength Services.WrongLength l m h = refl
+
 interruptEventBack : InterruptEvent → DshotInterruptEvent
 interruptEventBack completed = InterruptEvents.Completed
 interruptEventBack Spec·.faulted = InterruptEvents.Faulted
 interruptEventBack spurious = InterruptEvents.Spurious
 
-serviceBack : Answer → Service
-serviceBack done = Services.WrongLength
-serviceBack (refused number) = Services.WrongLength
-serviceBack (motor-sent m) = Services.WrongLength
-serviceBack (serviced e o) = Services.Event (serviceEventBack e)
-serviceBack (interrupted e o) = Services.WrongLength
-serviceBack (replied r) = Services.WrongLength
-serviceBack (flag b) = Services.WrongLength
-serviceBack (counts c) = Services.WrongLength
-serviceBack (values v) = Services.WrongLength
-serviceBack (reply-counts r) = Services.WrongLength
-serviceBack (slots l) = Services.WrongLength
-
-service-back : (a : Service) (l : List Order) → serviceBack (serviceAnswer a l) ≡ a
-unfolding serviceBack serviceEventBack
-service-back (Services.Event ServiceEvents.FrameStarted) l = refl
-service-back (Services.Event ServiceEvents.Busy) l = refl
-service-back (Services.Event ServiceEvents.LeaseExpired) l = refl
-service-back (Services.Event ServiceEvents.Faulted) l = refl
-service-back Services.WrongLength l = refl
-
-pub serviceAnswer-injective : (a b : Service) (l m : List Order) → serviceAnswer a l ≡ serviceAnswer b m → a ≡ b
-serviceAnswer-injective a b l m e = sym (service-back a l) ∙ ap serviceBack e ∙ service-back b m
-
--- an event tells its orders
-pub service-orders : (e f : DshotServiceEvent) (l m : List Order) → serviceAnswer (Services.Event e) l ≡ serviceAnswer (Services.Event f) m → l ≡ m
-service-orders e f l m h = ap ordersIn h
-
-interruptBack : Answer → Interrupt
-interruptBack done = Interrupts.NoSuchMotor
-interruptBack (refused number) = Interrupts.NoSuchMotor
-interruptBack (motor-sent m) = Interrupts.NoSuchMotor
-interruptBack (serviced e o) = Interrupts.NoSuchMotor
-interruptBack (interrupted e o) = Interrupts.Event (interruptEventBack e)
-interruptBack (replied r) = Interrupts.NoSuchMotor
-interruptBack (flag b) = Interrupts.NoSuchMotor
-interruptBack (counts c) = Interrupts.NoSuchMotor
-interruptBack (values v) = Interrupts.NoSuchMotor
-interruptBack (reply-counts r) = Interrupts.NoSuchMotor
-interruptBack (slots l) = Interrupts.NoSuchMotor
-
-interrupt-back : (a : Interrupt) (l : List Order) → interruptBack (interruptAnswer a l) ≡ a
-unfolding interruptBack interruptEventBack
-interrupt-back (Interrupts.Event InterruptEvents.Completed) l = refl
-interrupt-back (Interrupts.Event InterruptEvents.Faulted) l = refl
-interrupt-back (Interrupts.Event InterruptEvents.Spurious) l = refl
-interrupt-back Interrupts.NoSuchMotor l = refl
+interrupt-event-back : (e : DshotInterruptEvent) → interruptEventBack (interruptEventOf e) ≡ e
+unfolding interruptEventBack
+interrupt-event-back InterruptEvents.Completed = refl
+interrupt-event-back InterruptEvents.Faulted = refl
+interrupt-event-back InterruptEvents.Spurious = refl
 
 pub interruptAnswer-injective : (a b : Interrupt) (l m : List Order) → interruptAnswer a l ≡ interruptAnswer b m → a ≡ b
-interruptAnswer-injective a b l m e = sym (interrupt-back a l) ∙ ap interruptBack e ∙ interrupt-back b m
+interruptAnswer-injective (Interrupts.Event e) (Interrupts.Event f) l m h = ap Interrupts.Event (injective interruptEventOf interruptEventBack interrupt-event-back e f (cc))
+interruptAnswer-injective (Interrupts.Event e) Interrupts.NoSuchMotor l m h = differ (cc)
+interruptAnswer-injective Interrupts.NoSuchMotor (Interrupts.Event f) l m h = differ (cc)
+interruptAnswer-injective Interrupts.NoSuchMotor Interrupts.NoSuchMotor l m h = refl
 
-pub interrupt-orders : (e f : DshotInterruptEvent) (l m : List Order) → interruptAnswer (Interrupts.Event e) l ≡ interruptAnswer (Interrupts.Event f) m → l ≡ m
-interrupt-orders e f l m h = ap ordersIn h
+-- ---- what is looked at, and the replies
 
--- an answer determines the array that holds just its orders, and the first duties beside it
+pub viewAnswer-injective : (a b : View) (l m : List ℕ) → viewAnswer a l ≡ viewAnswer b m → a ≡ b
+unfolding numberOf
+viewAnswer-injective Views.Shown Views.Shown l m h = refl
+viewAnswer-injective Views.Shown Views.WrongLength l m h = differ (cc)
+viewAnswer-injective Views.Shown Views.NoSuchMotor l m h = differ (cc)
+viewAnswer-injective Views.WrongLength Views.Shown l m h = differ (cc)
+viewAnswer-injective Views.WrongLength Views.WrongLength l m h = refl
+viewAnswer-injective Views.WrongLength Views.NoSuchMotor l m h = absurd (omega (arith, ap numberOf h))
+viewAnswer-injective Views.NoSuchMotor Views.Shown l m h = differ (cc)
+viewAnswer-injective Views.NoSuchMotor Views.WrongLength l m h = absurd (omega (arith, ap numberOf h))
+viewAnswer-injective Views.NoSuchMotor Views.NoSuchMotor l m h = refl
+
+taken-injective : (a b : TakenReply) → replyAnswer (a .reply) ≡ replyAnswer (b .reply) → a ≡ b
+taken-injective a b h = λ j. record { reply = replyAnswer-injective (a .reply) (b .reply) h j }
+
+-- replies that are held; where none are, `take_replies` promises what stands there
+pub takenAnswer-injective : (l m : List TakenReply) → takenAnswer true l ≡ takenAnswer true m → l ≡ m
+takenAnswer-injective l m h = map-injective (λ (t : TakenReply). replyAnswer (t .reply)) taken-injective l m (cc)
+
+pub taken-or-not : (l m : List TakenReply) → takenAnswer true l ≡ takenAnswer false m → ⊥
+taken-or-not l m h = differ (cc)
+
+pub replyStatsOf-injective : (a b : DshotReplyStats) → replyStatsOf a ≡ replyStatsOf b → a ≡ b
+replyStatsOf-injective a b h = λ j. record { valid = h j .valid; invalid = h j .invalid; «consecutive_invalid» = h j .consecutiveInvalid }
+
+-- an answer determines the number that holds just its orders, and the first duties beside it
 pub orders-determine : (o p : Orders) (d e : List ℕ) (a : Answer) → Just o d a → Just p e a → (o ≡ p) × (d ≡ e)
-orders-determine o p d e a h k = (h .array ∙ sym (k .array), h .duties ∙ sym (k .duties))
+orders-determine o p d e a h k = (h .number ∙ sym (k .number), h .duties ∙ sym (k .duties))

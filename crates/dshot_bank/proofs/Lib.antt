@@ -1,4 +1,5 @@
 pub mod StepLaws
+pub mod LeaseLaws
 pub mod SendLaws
 pub mod OrderLaws
 pub mod InterruptLaws

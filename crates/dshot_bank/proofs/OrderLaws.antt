@@ -1,82 +1,88 @@
--- The orders of a call as the array holds them: one more, one for each lane, and lists that come back from the array as they went in.
+-- The orders of a call as one number holds them: lists that are put together, and lists that come back from the number as they went in.
 -- Assumes nothing.
-use mathlib.Core.Path.{_≡_, _∙_, refl, sym, ap}
-use Prim.Native.Nat.{ℕ, zero, suc, _+_, _-_, _<_}
-use mathlib.Core.List.{List, [], _∷_, _++_, map, append-assoc, map-append}
+use mathlib.Core.Path.{_≡_, _∙_, refl, sym, ap, subst}
+use Prim.Native.Nat.{ℕ, zero, suc, _+_, _*_, _/_, _%_, _<_, _≤_}
+use mathlib.Core.List.{List, [], _∷_, _++_}
 use native.Mathlib.Omega.{arith}
-use lib.ListN.{length, set, replicate, length-append, length-map}
-use lib.Seq.{append-snoc, set-at, take-at}
+use lib.Arith.{digits-div, digits-mod}
+use lib.Seq.{append-snoc}
+use lib.ListN.{length, replicate, length-append}
 use Rattle.dshot_spec.specs.Tabulate.{tabulate}
-use Rattle.dshot_spec.proofs.Tabulated.{tabulate-more}
-use Rattle.dshot_bank_spec.specs.Order.{exchange-buffer, start-dma, force-outputs-low, pause-and-clear, latchOrders, startOrders, refusedOrders}
+use Rattle.dshot_bank_spec.specs.Order.{exchange-buffer, pause-and-clear, latchOrders, startOrders, refusedOrders}
 use Rattle.dshot_bank_spec.specs.Order as Spec
 use Rattle.dshot_bank_spec.specs.Calls.{Answer}
-use Rattle.dshot_bank.specs.declared.orders.Order.{Order}
+use Rattle.dshot_bank.specs.declared.DshotMotor.{DshotMotor}
+use Rattle.dshot_bank.specs.declared.DshotMotor.the-variants.{Motor1, Motor2, Motor3, Motor4}
+use Rattle.dshot_bank.specs.declared.orders.OrderKind.{OrderKind}
+use Rattle.dshot_bank.specs.declared.orders.OrderKind.the-variants.{None, ExchangeBuffer, StartDma, StartFrame, StopFrame, ForceOutputsLow, PauseAndClear, BeginReceive, EndReceive}
 use Rattle.dshot_bank.specs.declared.orders.Orders.{Orders}
-use Rattle.dshot_bank.specs.Orders.{entry, noOrder, held, dutiesIn, orderOf, ordersFrom, ordersOf, ordersIn, Just, Whole}
+use Rattle.dshot_bank.specs.States.{motorOf}
+use Rattle.dshot_bank.specs.Orders.{kindNumber, code, codesOf, above, held, dutiesIn, kindAt, orderOf, ordersFrom, ordersOf, ordersIn, Just, Whole}
 
--- ---- one more
+pub kind-small : (k : OrderKind) → kindNumber k ≤ 8
+kind-small None = omega arith
+kind-small ExchangeBuffer = omega arith
+kind-small StartDma = omega arith
+kind-small StartFrame = omega arith
+kind-small StopFrame = omega arith
+kind-small ForceOutputsLow = omega arith
+kind-small PauseAndClear = omega arith
+kind-small BeginReceive = omega arith
+kind-small EndReceive = omega arith
 
-replicate-cons : {A : Type 0} (m k : ℕ) (z : A) → k < m → replicate (m - k) z ≡ z ∷ replicate (m - (k + 1)) z
-replicate-cons m k z h = let e : m - k ≡ suc (m - (k + 1)) = omega arith in rw e
+-- ---- lists put together
 
--- in the place of the first that is none
-put-next : (l : List Spec.Order) (x : Spec.Order) → length l < 9
-    → set (map entry l ++ replicate (9 - length l) noOrder) (length l) (entry x) ≡ map entry (l ++ (x ∷ [])) ++ replicate (9 - (length l + 1)) noOrder
-put-next l x h =
-    let rest = replicate (9 - (length l + 1)) noOrder in
-    ap (λ (r : List Order). set (map entry l ++ r) (length l) (entry x)) (replicate-cons 9 (length l) noOrder h)
-    ∙ set-at (map entry l) noOrder rest (entry x) (length l) (length-map l entry)
-    ∙ sym (append-snoc (map entry l) (entry x) rest)
-    ∙ ap (λ (r : List Order). r ++ rest) (sym (map-append entry l (x ∷ [])))
+-- one list behind another
+pub codes-append : (l m : List Spec.Order) → codesOf (l ++ m) ≡ codesOf l + above (length l) (codesOf m)
+codes-append [] m = omega arith
+codes-append (x ∷ l) m = let e = codes-append l m in omega arith
 
--- one order more in the array is one more in the list
-pub pushed : (o : Orders) (l : List Spec.Order) (x : Spec.Order) → o .count < 9 → o ≡ held l
-    → _≡_ {A = Orders} (record { count = o .count + 1; list = set (o .list) (o .count) (entry x) }) (held (l ++ (x ∷ [])))
+-- so many orders, and a list behind them
+pub held-append : {o : Orders} (l m : List Spec.Order) (n : ℕ) → o ≡ held l → o .count ≡ n
+    → _≡_ {A = Orders} (record { count = n + length m; codes = o .codes + above n (codesOf m) }) (held (l ++ m))
 unfolding held
-pushed o l x h e =
-    let k : o .count ≡ length l = ap (λ (q : Orders). q .count) e in
-    let size : length l + 1 ≡ length (l ++ (x ∷ [])) = sym (length-append l (x ∷ [])) in
-    (λ j. record { count = e j .count + 1; list = set (e j .list) (e j .count) (entry x) })
-    ∙ (λ j. record { count = length l + 1; list = put-next l x (omega arith) j })
-    ∙ (λ j. record { count = size j; list = map entry (l ++ (x ∷ [])) ++ replicate (9 - size j) noOrder })
+held-append {o} l m n e h =
+    let k : length l ≡ n = sym (ap (λ (q : Orders). q .count) e) ∙ h in
+    let c : o .codes ≡ codesOf l = ap (λ (q : Orders). q .codes) e in
+    let size : n + length m ≡ length (l ++ m) = ap (λ (i : ℕ). i + length m) (sym k) ∙ sym (length-append l m) in
+    let sum : o .codes + above n (codesOf m) ≡ codesOf (l ++ m) = (λ j. c j + above (sym k j) (codesOf m)) ∙ sym (codes-append l m) in
+    λ j. record { count = size j; codes = sum j }
 
--- one entry more behind a list
-pub more-behind : {A : Type 0} (f : ℕ → A) (l : List A) (i : ℕ) → (l ++ tabulate i f) ++ (f i ∷ []) ≡ l ++ tabulate (i + 1) f
-more-behind {A} f l i = append-assoc l (tabulate i f) (f i ∷ []) ∙ ap (λ (m : List A). l ++ m) (sym (tabulate-more f i))
+-- ---- orders that the number and the first duties can hold
 
--- ---- orders that the array and the first duties can hold
-
--- an order comes back from its entry and the first duties
-abbrev pub Own : List ℕ → Spec.Order → Type 0
-Own d x = orderOf d (entry x .kind) (entry x .motor) ≡ x ∷ []
+-- an order comes back from its number and the first duties
+pub record Own (d : List ℕ) (x : Spec.Order) : Type 0 where
+  pub small : code x < 128
+  pub order : orderOf d (kindAt (code x / 8)) (code x % 8) ≡ x ∷ []
 
 -- each of a list does
 abbrev pub Kept : List ℕ → List Spec.Order → Type 0
-Kept d l = ordersFrom d (map entry l) ≡ l
+Kept d l = ordersFrom d (length l) (codesOf l) ≡ l
+
+-- the lowest order of a number, and the rest of it
+lowest : (a c : ℕ) → a < 128 → ((a + 128 * c) % 128 ≡ a) × ((a + 128 * c) / 128 ≡ c)
+lowest a c h =
+    let e : a + 128 * c ≡ c * 128 + a = omega arith in
+    (ap (λ (n : ℕ). n % 128) e ∙ digits-mod c h, ap (λ (n : ℕ). n / 128) e ∙ digits-div c h)
 
 module _ (d : List ℕ) where
-  from-append : (a b : List Order) → ordersFrom d (a ++ b) ≡ ordersFrom d a ++ ordersFrom d b
-  from-append [] b = refl
-  from-append (x ∷ a) b =
-      let o = orderOf d (x .kind) (x .motor) in
-      ap (λ (r : List Spec.Order). o ++ r) (from-append a b) ∙ sym (append-assoc o (ordersFrom d a) (ordersFrom d b))
-
-  pub kept-append : (l m : List Spec.Order) → Kept d l → Kept d m → Kept d (l ++ m)
-  kept-append l m p q = ap (ordersFrom d) (map-append entry l m) ∙ from-append (map entry l) (map entry m) ∙ (λ j. p j ++ q j)
-
   pub kept-cons : (x : Spec.Order) (l : List Spec.Order) → Own d x → Kept d l → Kept d (x ∷ l)
-  kept-cons x l p q = λ j. p j ++ q j
+  kept-cons x l o k =
+      let low = lowest (code x) (codesOf l) (o .small) in
+      (λ j. orderOf d (kindAt (low .0 j / 8)) (low .0 j % 8) ++ ordersFrom d (length l) (low .1 j)) ∙ (λ j. o .order j ++ k j)
 
-  pub kept-tabulate : (f : ℕ → Spec.Order) → ((m : ℕ) → Own d (f m)) → (n : ℕ) → Kept d (tabulate n f)
+  -- an order for each lane before others
+  pub kept-lanes : (f : ℕ → Spec.Order) → ((m : ℕ) → m < 8 → Own d (f m)) → (n : ℕ) → n ≤ 8 → (l : List Spec.Order) → Kept d l → Kept d (tabulate n f ++ l)
   unfolding tabulate
-  kept-tabulate f h zero = refl
-  kept-tabulate f h (suc n) = kept-append (tabulate n f) (f n ∷ []) (kept-tabulate f h n) (kept-cons (f n) [] (h n) refl)
+  kept-lanes f own zero h l k = k
+  kept-lanes f own (suc n) h l k =
+      subst (λ (m : List Spec.Order). Kept d m) (sym (append-snoc (tabulate n f) (f n) l))
+      (kept-lanes f own n (omega arith) (f n ∷ l) (kept-cons (f n) l (own n (omega arith)) k))
 
 -- a list is whole where each of its orders comes back with the list's own first duties
 pub whole : (l : List Spec.Order) → Kept (dutiesIn l) l → Whole l
 unfolding held ordersOf
-whole l k = ap (ordersFrom (dutiesIn l)) (take-at (map entry l) (replicate (9 - length l) noOrder) (length l) (length-map l entry)) ∙ k
+whole l k = k
 
 -- a whole list comes back
 pub back : (o : Orders) (d : List ℕ) (l : List Spec.Order) → o ≡ held l → d ≡ dutiesIn l → Whole l → ordersOf o d ≡ l
@@ -84,15 +90,22 @@ back o d l p q w = (λ j. ordersOf (p j) (q j)) ∙ w
 
 -- and nothing stands beside it, where these are the orders of the answer
 pub just : (o : Orders) (d : List ℕ) (l : List Spec.Order) (a : Answer) → o ≡ held l → d ≡ dutiesIn l → ordersIn a ≡ l → Just o d a
-just o d l a p q e = record { array = p ∙ ap held (sym e); duties = q ∙ ap dutiesIn (sym e) }
+just o d l a p q e = record { number = p ∙ ap held (sym e); duties = q ∙ ap dutiesIn (sym e) }
 
--- ---- the first duties of a list
+-- the first order of an interrupt
+pub own-paused : (d : List ℕ) (m : DshotMotor) → Own d (pause-and-clear (motorOf m))
+own-paused d Motor1 = record { small = omega arith; order = refl }
+own-paused d Motor2 = record { small = omega arith; order = refl }
+own-paused d Motor3 = record { small = omega arith; order = refl }
+own-paused d Motor4 = record { small = omega arith; order = refl }
+
+-- ---- the lists of orders of the calls
 
 -- an order for each lane that has none
-duties-tabulate : (f : ℕ → Spec.Order) → ((m : ℕ) (l : List Spec.Order) → dutiesIn (f m ∷ l) ≡ dutiesIn l) → (n : ℕ) (l : List Spec.Order) → dutiesIn (tabulate n f ++ l) ≡ dutiesIn l
+duties-lanes : (f : ℕ → Spec.Order) → ((m : ℕ) (l : List Spec.Order) → dutiesIn (f m ∷ l) ≡ dutiesIn l) → (n : ℕ) (l : List Spec.Order) → dutiesIn (tabulate n f ++ l) ≡ dutiesIn l
 unfolding tabulate
-duties-tabulate f h zero l = refl
-duties-tabulate f h (suc n) l = ap dutiesIn (append-snoc (tabulate n f) (f n) l) ∙ duties-tabulate f h n (f n ∷ l) ∙ h n l
+duties-lanes f h zero l = refl
+duties-lanes f h (suc n) l = ap dutiesIn (append-snoc (tabulate n f) (f n) l) ∙ duties-lanes f h n (f n ∷ l) ∙ h n l
 
 pub duties-latched : replicate 4 0 ≡ dutiesIn (latchOrders 4)
 unfolding tabulate
@@ -102,27 +115,28 @@ pub duties-started : (d : List ℕ) → dutiesIn (startOrders 4 d) ≡ d
 unfolding tabulate
 duties-started d = refl
 
-pub duties-refused : (k : ℕ) → replicate 4 0 ≡ dutiesIn (refusedOrders 4 k)
-duties-refused k = duties-latched ∙ sym (duties-tabulate exchange-buffer (λ m l. refl) (k + 1) (latchOrders 4))
-
--- ---- the lists of orders of the calls are whole
+pub whole-none : Whole []
+unfolding held ordersOf
+whole-none = refl
 
 pub kept-latched : (d : List ℕ) → Kept d (latchOrders 4)
-kept-latched d = kept-cons d force-outputs-low (tabulate 4 pause-and-clear) refl (kept-tabulate d pause-and-clear (λ m. refl) 4)
-
-pub whole-none : Whole []
-whole-none = whole [] refl
+unfolding tabulate
+kept-latched d = refl
 
 pub whole-latched : Whole (latchOrders 4)
 whole-latched = whole (latchOrders 4) (kept-latched _)
 
 pub whole-started : (d : List ℕ) → Whole (startOrders 4 d)
-whole-started d = whole (startOrders 4 d) (rw (duties-started d) kept)
-  where
-    kept : Kept d (startOrders 4 d)
-    kept =
-        kept-append d (tabulate 4 exchange-buffer) _ (kept-tabulate d exchange-buffer (λ m. refl) 4)
-        (kept-append d (tabulate 4 start-dma) _ (kept-tabulate d start-dma (λ m. refl) 4) refl)
+unfolding held ordersOf tabulate
+whole-started d = refl
 
-pub whole-refused : (k : ℕ) → Whole (refusedOrders 4 k)
-whole-refused k = whole (refusedOrders 4 k) (kept-append _ (tabulate (k + 1) exchange-buffer) (latchOrders 4) (kept-tabulate _ exchange-buffer (λ m. refl) (k + 1)) (kept-latched _))
+-- a lane's order to exchange comes back
+own-exchange : (d : List ℕ) (m : ℕ) → m < 8 → Own d (exchange-buffer m)
+own-exchange d m h = record { small = omega arith; order = λ j. orderOf d (kindAt (digits-div 1 h j)) (digits-mod 1 h j) }
+
+-- the exchanges up to a lane, and the orders of the fault
+pub whole-refused : (k : ℕ) → k < 4 → Whole (refusedOrders 4 k)
+whole-refused k h = whole (refusedOrders 4 k) (kept-lanes _ exchange-buffer (own-exchange _) (k + 1) (omega arith) (latchOrders 4) (kept-latched _))
+
+pub duties-refused : (k : ℕ) → replicate 4 0 ≡ dutiesIn (refusedOrders 4 k)
+duties-refused k = duties-latched ∙ sym (duties-lanes exchange-buffer (λ m l. refl) (k + 1) (latchOrders 4))

@@ -16,8 +16,7 @@ use Rattle.dshot_spec.proofs.Tabulated.{length-tabulate, getD-tabulate}
 use Rattle.dshot_bank_spec.specs.Lanes.{if_then_else_}
 use Rattle.dshot_bank_spec.specs.Refusals.{noSuchMotor}
 use Rattle.dshot_bank_spec.specs.Calls.{State, Stepped, sending, act, slotsFit, serviceFits, buffersFit, lengthRefusal, portRefusal, refuseOr, step}
-use Rattle.dshot_bank.specs.declared.LaneReply.{LaneReply}
-use Rattle.dshot_bank.specs.declared.replies.TakenReply.{TakenReply}
+use Rattle.dshot_bank.specs.Views.{shown}
 
 -- ---- arrays
 
@@ -33,14 +32,14 @@ module _ {A B : Type 0} (f : A → B) where
   map-at l i d e h = sym (List·getD-map f l i d) ∙ getD-any (map f l) i (f d) e (omega (arith, length-map l f))
 
   -- what each entry stands for, in turn
-  pub tabulate-map : {n : ℕ} (l : List A) (d : A) → length l ≡ n → tabulate n (λ (i : ℕ). f (getD l i d)) ≡ map f l
+  tabulate-map : {n : ℕ} (l : List A) (d : A) → length l ≡ n → tabulate n (λ (i : ℕ). f (getD l i d)) ≡ map f l
   tabulate-map {n} l d h =
       let g : ℕ → B = λ (i : ℕ). f (getD l i d) in
       ext-getD (f d) (tabulate n g) (map f l) (length-tabulate g n ∙ sym h ∙ sym (length-map l f))
       (λ k b. getD-tabulate g n k (f d) (omega (arith, length-tabulate g n)) ∙ sym (List·getD-map f l k d))
 
 -- two steps are one
-pub map-map : {A B C : Type 0} (g : B → C) (f : A → B) (l : List A) → map g (map f l) ≡ map (λ (x : A). g (f x)) l
+map-map : {A B C : Type 0} (g : B → C) (f : A → B) (l : List A) → map g (map f l) ≡ map (λ (x : A). g (f x)) l
 map-map g f [] = refl
 map-map {C = C} g f (x ∷ l) = ap (λ (ys : List C). g (f x) ∷ ys) (map-map g f l)
 
@@ -48,18 +47,17 @@ map-map {C = C} g f (x ∷ l) = ap (λ (ys : List C). g (f x) ∷ ys) (map-map g
 pub tabulate-maps : {A B C : Type 0} {n : ℕ} (g : B → C) (f : A → B) (l : List A) (d : A) → length l ≡ n → tabulate n (λ (i : ℕ). g (f (getD l i d))) ≡ map g (map f l)
 tabulate-maps {A} g f l d h = tabulate-map (λ (x : A). g (f x)) l d h ∙ sym (map-map g f l)
 
--- a lane's reply as it is handed out
-abbrev pub takenOf : LaneReply → TakenReply
-takenOf l = record { reply = l .reply }
-
 -- a lane's part of a buffer that holds w entries for each
+pub part-size : (w i : ℕ) → w * i + w - w * i ≡ w
+part-size w i = omega arith
+
 pub part-is : (w i : ℕ) (xs : List ℕ) → take (w * i + w - w * i) (drop (w * i) xs) ≡ take w (drop (w * i) xs)
-part-is w i xs = let k : w * i + w - w * i ≡ w = omega arith in rw k
+part-is w i xs = rw (part-size w i)
 
 -- ---- the sequence that a lane is sending
 
 -- two tests that hold
-fit-both : (t u : Bool) → pick t u false ≡ true → (t ≡ true) × (u ≡ true)
+pub fit-both : (t u : Bool) → pick t u false ≡ true → (t ≡ true) × (u ≡ true)
 fit-both true u e = (refl, e)
 fit-both false u e = let z : _≡_ {A = ℕ} 0 1 = cc in absurd (omega arith)
 
@@ -82,3 +80,12 @@ module _ (n : ℕ) (s : State) (motor : ℕ) where
   pub sending-is : {fit there : Bool} → buffersFit n (s .buffers) ≡ fit → ltb motor n ≡ there → answered fit there ≡ step n s (sending motor)
   unfolding step portRefusal
   sending-is e h = λ j. answered (sym e j) (sym h j)
+
+  -- where both hold, a lane's part of the buffer that its mark names is shown
+  pub shown-so : {buffer : List ℕ} → buffer ≡ pick (getD (s .bank .core .frame .inSecond) motor false) (s .buffers .second) (s .buffers .first)
+      → buffersFit n (s .buffers) ≡ true → ltb motor n ≡ true
+      → take (16 * motor + 16 - 16 * motor) (drop (16 * motor) buffer) ≡ shown (step n s (sending motor) .answer)
+  shown-so {buffer} b e h =
+      part-is 16 motor buffer
+      ∙ ap (λ (l : List ℕ). take 16 (drop (16 * motor) l)) b
+      ∙ ap (λ (x : Stepped). shown (x .answer)) (sending-is e h)

@@ -13,6 +13,7 @@ use Rattle.dshot_reply_spec.proofs.Choice.{not-both}
 use Rattle.dshot_spec.specs.Timing.{Timing}
 use Rattle.dshot_spec.specs.Sequence.{Sequence, sequenceOf, encodedSequence, firstDuty}
 use Rattle.dshot_bank_spec.specs.Send.{putSlots}
+use Rattle.dshot_bank.proofs.ReplyLaws.{part-size}
 
 -- a refused choice is the other
 pub pick-not : {A : Type 0} (b : Bool) (x y : A) → pick (not b) x y ≡ pick b y x
@@ -41,8 +42,7 @@ module _ (part : List ℕ) (w : ℕ) (t : Timing) (long : length part ≡ 16) wh
 pub part-back : (xs : List ℕ) (lane : ℕ) {ys zs : List ℕ} → ys ≡ zs
     → take (16 * lane) xs ++ (ys ++ drop (16 * lane + 16 - 16 * lane) (drop (16 * lane) xs)) ≡ putSlots lane zs xs
 part-back xs lane e =
-    let k : 16 * lane + 16 - 16 * lane ≡ 16 = omega arith in
-    λ j. take (16 * lane) xs ++ (e j ++ drop (k j) (drop (16 * lane) xs))
+    λ j. take (16 * lane) xs ++ (e j ++ drop (part-size 16 lane j) (drop (16 * lane) xs))
 
 -- a run's two commands, one by one
 pub two : (l : List ℕ) → length l ≡ 2 → getD l 0 0 ∷ getD l 1 0 ∷ [] ≡ l

@@ -11,6 +11,7 @@ use Rattle.dshot_reply_spec.specs.Answer as Reply
 use Rattle.dshot_bank_spec.specs.State.{Buffers}
 use Rattle.dshot_bank_spec.specs.State as Spec
 use Rattle.dshot_bank_spec.specs.Refusals.{noSuchMotor}
+use Rattle.dshot_bank_spec.specs.With.{withDemand}
 use Rattle.dshot_bank_spec.specs.Calls.{Call, Answer, done, refused, State, told, changed, commanded, act, laneRefusal, portRefusal, refuseOr, step}
 use Rattle.dshot_bank.specs.declared.DshotMotor.{DshotMotor}
 use Rattle.dshot_bank.specs.declared.DshotMotor.the-variants.{Motor1, Motor2, Motor3, Motor4}
@@ -37,6 +38,10 @@ module _ (self : DshotBank) (b : Buffers) where
   -- a command that is refused
   pub refused-so : {k : ℕ} {answer : Reply.Answer Spec.Core} → Reply.refused k ≡ answer → stepped (refused k) self b ≡ commanded (stateOf self b) answer
   refused-so e = ap (commanded (stateOf self b)) e
+
+-- a demand that stays
+pub demand-kept : (s : State) {a : Answer} {d : Spec.Demand} → s .bank .core .demand ≡ d → changed s a (withDemand d (s .bank .core)) ≡ told s a
+demand-kept s {a} e = λ j. changed s a (withDemand (sym e j) (s .bank .core))
 
 -- ---- lanes
 

@@ -4,7 +4,9 @@ use Prim.Native.Nat.{ℕ}
 use mathlib.Core.Bool.{Bool}
 use mathlib.Core.List.{List, map}
 use mathlib.Core.Option.{some, none}
-use Rattle.dshot_reply.specs.declared.DshotReplyError.the-variants.{NoReply}
+use Rattle.dshot_reply_spec.specs.Answer as Reply
+use Rattle.dshot_reply_spec.specs.Value.{Reading}
+use Rattle.dshot_reply.specs.declared.DshotReplyError.the-variants as DshotReplyError·
 use Rattle.dshot_reply.specs.declared.ReplyRead.the-variants as ReplyRead·
 use Rattle.dshot_reply.specs.Answers.{replyAnswer}
 use Rattle.dshot_bank_spec.specs.Lanes.{if_then_else_}
@@ -27,6 +29,7 @@ use Rattle.dshot_bank.specs.declared.commands.Special.{Special}
 use Rattle.dshot_bank.specs.declared.commands.Special.the-variants as Special·
 use Rattle.dshot_bank.specs.declared.commands.Request.{Request}
 use Rattle.dshot_bank.specs.declared.commands.Request.the-variants as Request·
+use Rattle.dshot_bank.specs.declared.StoredReply.the-variants.{NoReply}
 use Rattle.dshot_bank.specs.declared.LaneReply.{LaneReply}
 use Rattle.dshot_bank.specs.declared.replies.TakenReply.{TakenReply}
 use Rattle.dshot_bank.specs.declared.replies.DshotReplyStats.{DshotReplyStats}
@@ -71,14 +74,18 @@ requestedAnswer (Request·.Refused e) = refused (requestErrorNumber e)
 
 -- what stands where there is none
 abbrev pub noLaneReply : LaneReply
-noLaneReply = record { reply = ReplyRead·.Refused NoReply; valid = 0; invalid = 0; «consecutive_invalid» = 0 }
+noLaneReply = record { reply = NoReply; valid = 0; invalid = 0; «consecutive_invalid» = 0 }
 
 abbrev pub noTakenReply : TakenReply
-noTakenReply = record { reply = ReplyRead·.Refused NoReply }
+noTakenReply = record { reply = ReplyRead·.Refused DshotReplyError·.NoReply }
+
+-- what is handed out of each lane
+abbrev pub answersOf : List TakenReply → List (Reply.Answer Reading)
+answersOf l = map (λ (t : TakenReply). replyAnswer (t .reply)) l
 
 -- the Rust's `Option<DshotReplies>`
 abbrev pub takenAnswer : Bool → List TakenReply → Answer
-takenAnswer held l = replied (if held then some (map (λ (t : TakenReply). replyAnswer (t .reply)) l) else none)
+takenAnswer held l = replied (if held then some (answersOf l) else none)
 
 abbrev pub replyStatsOf : DshotReplyStats → Spec.ReplyStats
 replyStatsOf s = record { valid = s .valid; invalid = s .invalid; consecutiveInvalid = s .«consecutive_invalid» }

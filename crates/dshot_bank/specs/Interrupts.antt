@@ -1,15 +1,13 @@
 -- What the interrupt of the code returns, in the terms of the definitions.
 -- Assumes nothing.
-use Prim.Native.Nat.{ℕ}
 use mathlib.Core.Path.{_≡_}
-use mathlib.Core.List.{List, [], _∷_}
+use mathlib.Core.List.{List}
 use lib.ListN.{replicate}
 use Rattle.dshot_bank_spec.specs.Refusals.{noSuchMotor}
-use Rattle.dshot_bank_spec.specs.Order.{Order, pause-and-clear}
+use Rattle.dshot_bank_spec.specs.Order.{Order}
 use Rattle.dshot_bank_spec.specs.Interrupt.{InterruptEvent, completed, faulted, spurious}
 use Rattle.dshot_bank_spec.specs.Interrupt as Spec
 use Rattle.dshot_bank_spec.specs.Calls.{Answer, refused, interrupted}
-use Rattle.dshot_bank.specs.declared.orders.Orders.{Orders}
 use Rattle.dshot_bank.specs.declared.interrupt.DshotInterruptEvent.{DshotInterruptEvent}
 use Rattle.dshot_bank.specs.declared.interrupt.DshotInterruptEvent.the-variants.{Completed, Faulted, Spurious}
 use Rattle.dshot_bank.specs.declared.interrupt.Interrupt.{Interrupt}
@@ -27,10 +25,6 @@ interruptEventOf Spurious = spurious
 abbrev pub interruptAnswer : Interrupt → List Order → Answer
 interruptAnswer (Event e) orders = interrupted (interruptEventOf e) orders
 interruptAnswer NoSuchMotor orders = refused noSuchMotor
-
--- the order with which every interrupt begins
-abbrev pub Begins : Orders → ℕ → Type 0
-Begins o motor = o ≡ held (pause-and-clear motor ∷ [])
 
 -- the same event, orders and core
 pub record Interrupts (r : Handled) (s : Spec.Interrupted) : Type 0 where

@@ -1,38 +1,60 @@
--- The orders of the code in the terms of the definitions: an array of nine, of which the first are counted, and the first duties beside it.
+-- The orders of the code in the terms of the definitions: one number, in which each order has seven bits, and the first duties beside it.
 -- Assumes nothing.
-use Prim.Native.Nat.{ℕ, _-_}
+use Prim.Native.Nat.{ℕ, zero, suc, _+_, _-_, _*_, _/_, _%_}
 use mathlib.Core.Path.{_≡_}
-use mathlib.Core.List.{List, [], _∷_, _++_, map}
-use lib.ListN.{length, take, replicate}
+use mathlib.Core.List.{List, [], _∷_, _++_}
+use lib.Dec.{eqb}
+use lib.ListN.{length, replicate}
+use Rattle.dshot_reply_spec.specs.Answer.{pick}
 use Rattle.dshot_bank_spec.specs.Order.{exchange-buffer, start-dma, start-frame, stop-frame, force-outputs-low, pause-and-clear, begin-receive, end-receive}
 use Rattle.dshot_bank_spec.specs.Order as Spec
 use Rattle.dshot_bank_spec.specs.Calls.{Answer, done, refused, motor-sent, serviced, interrupted, replied, flag, counts, values, reply-counts, slots}
+use Rattle.dshot_bank.specs.declared.DshotMotor.{DshotMotor}
 use Rattle.dshot_bank.specs.declared.orders.OrderKind.{OrderKind}
 use Rattle.dshot_bank.specs.declared.orders.OrderKind.the-variants.{None, ExchangeBuffer, StartDma, StartFrame, StopFrame, ForceOutputsLow, PauseAndClear, BeginReceive, EndReceive}
 use Rattle.dshot_bank.specs.declared.orders.Order.{Order}
 use Rattle.dshot_bank.specs.declared.orders.Orders.{Orders}
+use Rattle.dshot_bank.specs.States.{motorOf}
 
--- an order in the array
-abbrev pub entry : Spec.Order → Order
-entry (exchange-buffer m) = record { kind = ExchangeBuffer; motor = m }
-entry (start-dma m) = record { kind = StartDma; motor = m }
-entry (start-frame d) = record { kind = StartFrame; motor = 0 }
-entry stop-frame = record { kind = StopFrame; motor = 0 }
-entry force-outputs-low = record { kind = ForceOutputsLow; motor = 0 }
-entry (pause-and-clear m) = record { kind = PauseAndClear; motor = m }
-entry begin-receive = record { kind = BeginReceive; motor = 0 }
-entry end-receive = record { kind = EndReceive; motor = 0 }
+abbrev pub kindNumber : OrderKind → ℕ
+kindNumber None = 0
+kindNumber ExchangeBuffer = 1
+kindNumber StartDma = 2
+kindNumber StartFrame = 3
+kindNumber StopFrame = 4
+kindNumber ForceOutputsLow = 5
+kindNumber PauseAndClear = 6
+kindNumber BeginReceive = 7
+kindNumber EndReceive = 8
 
-abbrev pub noOrder : Order
-noOrder = record { kind = None; motor = 0 }
+-- the number of an order: eight times that of its kind, and its lane, 0 where it is for all
+abbrev pub code : Spec.Order → ℕ
+code (exchange-buffer m) = 8 * 1 + m
+code (start-dma m) = 8 * 2 + m
+code (start-frame d) = 8 * 3
+code stop-frame = 8 * 4
+code force-outputs-low = 8 * 5
+code (pause-and-clear m) = 8 * 6 + m
+code begin-receive = 8 * 7
+code end-receive = 8 * 8
 
--- a list of at most nine orders as the array holds it: counted, and filled up
+-- the numbers of some orders in one, the first in the lowest seven bits
+abbrev pub codesOf : List Spec.Order → ℕ
+codesOf [] = 0
+codesOf (x ∷ l) = code x + 128 * codesOf l
+
+-- a number moved up by n orders
+abbrev pub above : ℕ → ℕ → ℕ
+above zero c = c
+above (suc n) c = 128 * above n c
+
+-- a list of orders as the code holds it
 unfoldable pub held : List Spec.Order → Orders
-held l = record { count = length l; list = map entry l ++ replicate (9 - length l) noOrder }
+held l = record { count = length l; codes = codesOf l }
 
--- the order of each lane has a kind and the lane
-abbrev pub kinds : (ℕ → Spec.Order) → OrderKind → Type 0
-kinds order kind = (m : ℕ) → entry (order m) ≡ record { kind = kind; motor = m }
+-- an interrupt's first order
+abbrev pub Begins : Orders → DshotMotor → Type 0
+Begins o motor = o ≡ held (pause-and-clear (motorOf motor) ∷ [])
 
 -- the first duties that a list of orders has, or zeros
 abbrev pub dutiesIn : List Spec.Order → List ℕ
@@ -48,7 +70,30 @@ dutiesIn (end-receive ∷ l) = dutiesIn l
 
 -- ---- the other way
 
--- an order of the array, with the first duties
+-- the kind with a number
+abbrev pub kindAt : ℕ → OrderKind
+kindAt n =
+    pick (eqb n 1) ExchangeBuffer
+    (pick (eqb n 2) StartDma
+    (pick (eqb n 3) StartFrame
+    (pick (eqb n 4) StopFrame
+    (pick (eqb n 5) ForceOutputsLow
+    (pick (eqb n 6) PauseAndClear
+    (pick (eqb n 7) BeginReceive
+    (pick (eqb n 8) EndReceive None)))))))
+
+-- what the lowest seven bits say
+abbrev pub entryIn : ℕ → Order
+entryIn codes = record { kind = kindAt (codes % 128 / 8); motor = codes % 128 % 8 }
+
+-- the first order, and those after it
+abbrev pub firstOrder : Orders → Order
+firstOrder o = pick (eqb (o .count) 0) (record { kind = None; motor = 0 }) (entryIn (o .codes))
+
+abbrev pub restOrders : Orders → Orders
+restOrders o = pick (eqb (o .count) 0) o (record { count = o .count - 1; codes = o .codes / 128 })
+
+-- an order by its kind and lane, with the first duties
 abbrev pub orderOf : List ℕ → OrderKind → ℕ → List Spec.Order
 orderOf d None m = []
 orderOf d ExchangeBuffer m = exchange-buffer m ∷ []
@@ -60,13 +105,14 @@ orderOf d PauseAndClear m = pause-and-clear m ∷ []
 orderOf d BeginReceive m = begin-receive ∷ []
 orderOf d EndReceive m = end-receive ∷ []
 
-abbrev pub ordersFrom : List ℕ → List Order → List Spec.Order
-ordersFrom d [] = []
-ordersFrom d (o ∷ os) = orderOf d (o .kind) (o .motor) ++ ordersFrom d os
+-- so many orders of a number
+abbrev pub ordersFrom : List ℕ → ℕ → ℕ → List Spec.Order
+ordersFrom d zero codes = []
+ordersFrom d (suc n) codes = orderOf d (entryIn codes .kind) (entryIn codes .motor) ++ ordersFrom d n (codes / 128)
 
--- the orders of an array and of the first duties beside it
+-- the orders of an answer of the code, and of the first duties beside it
 unfoldable pub ordersOf : Orders → List ℕ → List Spec.Order
-ordersOf o d = ordersFrom d (take (o .count) (o .list))
+ordersOf o d = ordersFrom d (o .count) (o .codes)
 
 -- the orders of an answer; a refusal has none
 abbrev pub ordersIn : Answer → List Spec.Order
@@ -82,11 +128,11 @@ ordersIn (values v) = []
 ordersIn (reply-counts r) = []
 ordersIn (slots l) = []
 
--- nothing stands in the array and beside it but the orders of an answer
+-- nothing stands in the number and beside it but the orders of an answer
 pub record Just (o : Orders) (d : List ℕ) (a : Answer) : Type 0 where
-  pub array : o ≡ held (ordersIn a)
+  pub number : o ≡ held (ordersIn a)
   pub duties : d ≡ dutiesIn (ordersIn a)
 
--- a list of orders that the array and the first duties can hold
+-- a list of orders that the number and the first duties can hold
 abbrev pub Whole : List Spec.Order → Type 0
 Whole l = ordersOf (held l) (dutiesIn l) ≡ l

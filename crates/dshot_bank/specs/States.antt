@@ -1,9 +1,11 @@
 -- The state of the code in the terms of the definitions.
 -- Assumes nothing.
-use Prim.Native.Nat.{ℕ}
+use Prim.Native.Nat.{ℕ, _-_}
 use mathlib.Core.List.{List, [], _∷_, map}
 use mathlib.Core.Option.{Option, none, some}
-use Rattle.dshot_reply.specs.Answers.{replyAnswer}
+use Rattle.dshot_reply_spec.specs.Answer as Reply
+use Rattle.dshot_reply_spec.specs.Answer.{given, refused, noReply, overlong, invalidSymbol, wrongChecksum, zeroPeriod}
+use Rattle.dshot_reply_spec.specs.Value.{Reading, erpm, temp, volt, amp, debug, state, edt}
 use Rattle.dshot.specs.Answers.{timingOf}
 use Rattle.dshot_bank_spec.specs.State.{Buffers}
 use Rattle.dshot_bank_spec.specs.State as Spec
@@ -14,17 +16,17 @@ use Rattle.dshot_bank.specs.declared.DshotMotor.the-variants.{Motor1, Mo
 use Rattle.dshot_bank.specs.declared.MotorChoice.{MotorChoice}
 use Rattle.dshot_bank.specs.declared.MotorChoice.the-variants as MotorChoice·
 use Rattle.dshot_bank.specs.declared.DshotStats.{DshotStats}
-use Rattle.dshot_bank.specs.declared.Lease.{Lease}
-use Rattle.dshot_bank.specs.declared.Lease.the-variants as Lease·
 use Rattle.dshot_bank.specs.declared.Demand.{Demand}
 use Rattle.dshot_bank.specs.declared.CommandRun.{CommandRun}
 use Rattle.dshot_bank.specs.declared.CommandRun.the-variants as CommandRun·
 use Rattle.dshot_bank.specs.declared.Requests.{Requests}
 use Rattle.dshot_bank.specs.declared.Frame.{Frame}
 use Rattle.dshot_bank.specs.declared.Core.{Core}
+use Rattle.dshot_bank.specs.declared.StoredReply.{StoredReply}
+use Rattle.dshot_bank.specs.declared.StoredReply.the-variants.{Erpm, Temperature, Voltage, Current, Debug, StateEvent, ExtendedTelemetryEnabled, NoReply, Overlong, InvalidSymbol, Checksum, ZeroPeriod}
 use Rattle.dshot_bank.specs.declared.LaneReply.{LaneReply}
 use Rattle.dshot_bank.specs.declared.DshotBank.{DshotBank}
-use lib.Dec.{ltb}
+use lib.Dec.{eqb, ltb}
 
 -- the lane of a motor
 abbrev pub motorOf : DshotMotor → ℕ
@@ -42,13 +44,12 @@ choiceOf (MotorChoice·.Some m) = some (motorOf m)
 abbrev pub motorAt : ℕ → Option ℕ
 motorAt lane = if ltb lane 4 then some lane else none
 
--- the Rust's `Option<u32>`
-abbrev pub leaseOf : Lease → Option ℕ
-leaseOf Lease·.None = none
-leaseOf (Lease·.Some ms) = some ms
+-- the Rust's `Option<u32>`: the milliseconds after which a lease is over are one more than its duration, and 0 without one
+abbrev pub leaseOf : ℕ → Option ℕ
+leaseOf over = if eqb over 0 then none else some (over - 1)
 
 abbrev pub demandOf : Demand → Spec.Demand
-demandOf d = record { requestedValues = d .«requested_values»; leaseStartedMs = d .«lease_started_ms»; leaseDurationMs = leaseOf (d .«lease_duration_ms») }
+demandOf d = record { requestedValues = d .«requested_values»; leaseStartedMs = d .«lease_started_ms»; leaseDurationMs = leaseOf (d .«lease_over_after_ms») }
 
 abbrev pub telemetryOf : Requests → Spec.Telemetry
 telemetryOf r = record { request = choiceOf (r .«telemetry_request»); requestSent = choiceOf (r .«telemetry_request_sent») }
@@ -93,8 +94,23 @@ coreOf c = record {
   stats = statsOf (c .stats);
 }
 
+-- the reading of a lane's window, or document 01's number of each refusal
+abbrev pub storedAnswer : StoredReply → Reply.Answer Reading
+storedAnswer (Erpm n) = given (erpm n)
+storedAnswer (Temperature n) = given (temp n)
+storedAnswer (Voltage n) = given (volt n)
+storedAnswer (Current n) = given (amp n)
+storedAnswer (Debug channel n) = given (debug channel n)
+storedAnswer (StateEvent n) = given (state n)
+storedAnswer ExtendedTelemetryEnabled = given edt
+storedAnswer NoReply = refused noReply
+storedAnswer Overlong = refused overlong
+storedAnswer InvalidSymbol = refused invalidSymbol
+storedAnswer Checksum = refused wrongChecksum
+storedAnswer ZeroPeriod = refused zeroPeriod
+
 abbrev pub laneReplyOf : LaneReply → Spec.LaneReply
-laneReplyOf l = record { reply = replyAnswer (l .reply); valid = l .valid; invalid = l .invalid; consecutiveInvalid = l .«consecutive_invalid» }
+laneReplyOf l = record { reply = storedAnswer (l .reply); valid = l .valid; invalid = l .invalid; consecutiveInvalid = l .«consecutive_invalid» }
 
 abbrev pub repliesOf : List LaneReply → List Spec.LaneReply
 repliesOf l = map laneReplyOf l

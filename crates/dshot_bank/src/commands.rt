@@ -10,7 +10,6 @@ use crate::Demand;
 use crate::DshotBank;
 use crate::DshotMotor;
 use crate::LANES;
-use crate::Lease;
 use crate::MotorChoice;
 use crate::Requests;
 use dshot::DshotCommandSequence;
@@ -22,9 +21,11 @@ ghost use lib.Dec.{ltb};
 ghost use Rattle.dshot.specs.Answers.{runOf};
 ghost use Rattle.dshot_bank_spec.specs.Lanes.{any, isSome};
 ghost use Rattle.dshot_bank_spec.specs.State.{Buffers};
-ghost use Rattle.dshot_bank_spec.specs.Commands.{anyRequested, isRunning, commandStop, clearRequestSent};
+ghost use Rattle.dshot_bank_spec.specs.State as Spec;
+ghost use Rattle.dshot_bank_spec.specs.Commands.{anyRequested, isRunning, commandStop, commandThrottles, clearRequestSent};
+ghost use Rattle.dshot_bank_spec.specs.With.{withDemand};
 ghost use Rattle.dshot_bank_spec.specs.Calls as Call;
-ghost use Rattle.dshot_bank_spec.specs.Calls.{step, done, motor-sent};
+ghost use Rattle.dshot_bank_spec.specs.Calls.{State, step, done, motor-sent, changed, commanded};
 ghost use Rattle.dshot_bank.specs.declared.MotorChoice.the-variants as MotorChoice·;
 ghost use Rattle.dshot_bank.specs.States.{motorOf, choiceOf, demandOf, commandSequenceOf, coreOf, stateOf, stepped};
 ghost use Rattle.dshot_bank.specs.Answers.{enabledAnswer, throttledAnswer, specialAnswer, requestedAnswer};
@@ -104,6 +105,12 @@ pub struct SentTaken {
     pub bank: DshotBank,
 }
 
+// An answer of `command_throttles`, with the demand after it.
+struct Demanded {
+    answer: Throttle,
+    demand: Demand,
+}
+
 fn any_above(values: MotorValues, most: u16) -> bool
     ensures { λ r. ⌜ r ≡ any (ltb most) values ⌝ }
 {
@@ -125,11 +132,60 @@ impl Demand {
     fn is_running(self) -> bool
         ensures { λ r. ⌜ r ≡ isRunning (demandOf self) ⌝ }
     {
-        let lease = self.lease_duration_ms;
+        if self.lease_over_after_ms != 0 {
+            return true;
+        }
         let values = self.requested_values;
-        match lease {
-            Lease::Some(_) => true,
-            Lease::None => any_requested(values),
+        any_requested(values)
+    }
+
+    fn stopped(self) -> Self
+        ensures { λ r. ⌜ ((k : Spec.Core) → k .demand ≡ demandOf self → withDemand (demandOf r) k ≡ commandStop 4 k) ⌝ }
+    {
+        Demand {
+            requested_values: [0; LANES],
+            lease_started_ms: self.lease_started_ms,
+            lease_over_after_ms: 0,
+        }
+    }
+
+    // What `command_throttles` does to the demand of a bank.
+    fn throttled(
+        self,
+        faulted: bool,
+        commands: MotorValues,
+        now_ms: u64,
+        lease_duration_ms: u32,
+    ) -> Demanded
+        ensures { λ r. ⌜ ((s : State) → s .bank .core .demand ≡ demandOf self → s .bank .core .frame .faulted ≡ faulted → changed s (throttledAnswer (r .answer)) (withDemand (demandOf (r .demand)) (s .bank .core)) ≡ commanded s (commandThrottles 4 commands «now_ms» «lease_duration_ms» (s .bank .core))) ⌝ }
+    {
+        if faulted {
+            return Demanded {
+                answer: Throttle::Refused(DshotCommandError::Faulted),
+                demand: self,
+            };
+        }
+        if any_above(commands, DSHOT_COMMAND_MAX) {
+            return Demanded {
+                answer: Throttle::Refused(DshotCommandError::ThrottleOutOfRange),
+                demand: self,
+            };
+        }
+        if !any_requested(commands) {
+            return Demanded {
+                answer: Throttle::Ok,
+                demand: self.stopped(),
+            };
+        }
+        let lease_over_after_ms = lease_duration_ms as u64 + 1;
+        let demand = Demand {
+            requested_values: throttles_to_dshot(commands),
+            lease_started_ms: now_ms,
+            lease_over_after_ms,
+        };
+        Demanded {
+            answer: Throttle::Ok,
+            demand,
         }
     }
 }
@@ -214,12 +270,7 @@ impl Core {
     pub(crate) fn stopped(mut self) -> Self
         ensures { λ r. ⌜ coreOf r ≡ commandStop 4 (coreOf self) ⌝ }
     {
-        let started = self.demand.lease_started_ms;
-        let demand = Demand {
-            requested_values: [0; LANES],
-            lease_started_ms: started,
-            lease_duration_ms: Lease::None,
-        };
+        let demand = self.demand.stopped();
         self.demand = demand;
         self
     }
@@ -267,36 +318,14 @@ impl DshotBank {
     ) -> Throttled
         ensures { λ r. ⌜ ((b : Buffers) → stepped (throttledAnswer (r .answer)) (r .bank) b ≡ step 4 (stateOf self b) (Call.command-throttles commands «now_ms» «lease_duration_ms»)) ⌝ }
     {
-        if self.core.frame.faulted {
-            return Throttled {
-                answer: Throttle::Refused(DshotCommandError::Faulted),
-                bank: self,
-            };
-        }
-        if any_above(commands, DSHOT_COMMAND_MAX) {
-            return Throttled {
-                answer: Throttle::Refused(DshotCommandError::ThrottleOutOfRange),
-                bank: self,
-            };
-        }
-        if !any_requested(commands) {
-            return Throttled {
-                answer: Throttle::Ok,
-                bank: self.command_stop(),
-            };
-        }
-        let demand = Demand {
-            requested_values: throttles_to_dshot(commands),
-            lease_started_ms: now_ms,
-            lease_duration_ms: Lease::Some(lease_duration_ms),
-        };
+        let demand = self.core.demand;
+        let made = demand.throttled(self.core.frame.faulted, commands, now_ms, lease_duration_ms);
+        let answer = made.answer;
+        let demand = made.demand;
         let mut core = self.core;
         core.demand = demand;
         self.core = core;
-        Throttled {
-            answer: Throttle::Ok,
-            bank: self,
-        }
+        Throttled { answer, bank: self }
     }
 
     // Queues a run of special-command frames for one motor, such as a spin direction change and save.

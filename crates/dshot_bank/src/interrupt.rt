@@ -8,14 +8,12 @@ use crate::DshotBank;
 use crate::DshotMotor;
 use crate::DshotStats;
 use crate::Frame;
-use crate::LANES;
 use crate::MotorChoice;
 use crate::orders::OrderKind;
 use crate::orders::Orders;
 use crate::replies::wrapping_add;
-use crate::send::add_if;
 ghost use mathlib.Core.Path.{_≡_};
-ghost use Prim.Native.Nat.{ℕ, _≤_};
+ghost use Prim.Native.Nat.{_<_, _≤_};
 ghost use mathlib.Core.Bool.{true, false};
 ghost use mathlib.Core.List.{List, _++_};
 ghost use lib.ListN.{replicate};
@@ -28,10 +26,10 @@ ghost use Rattle.dshot_bank_spec.specs.Replies.{wrappingAdd};
 ghost use Rattle.dshot_bank_spec.specs.With.{withFramesCompleted};
 ghost use Rattle.dshot_bank_spec.specs.Calls.{step, on-dma-interrupt};
 ghost use Rattle.dshot_bank.specs.States.{motorOf, frameOf, statsOf, coreOf, stateOf, stepped};
-ghost use Rattle.dshot_bank.specs.Orders.{held, ordersOf, Just};
-ghost use Rattle.dshot_bank.specs.Interrupts.{interruptAnswer, Interrupts, Begins};
+ghost use Rattle.dshot_bank.specs.Orders.{held, ordersOf, Begins, Just};
+ghost use Rattle.dshot_bank.specs.Interrupts.{interruptAnswer, Interrupts};
 
-const ALL_MOTORS_COMPLETE: u8 = 0b1111;
+const ALL_MOTORS_COMPLETE: u32 = 0b1111;
 
 pub enum DshotInterruptEvent {
     Completed,
@@ -70,12 +68,13 @@ impl DshotStats {
     fn count_completion(mut self, motor: DshotMotor) -> Self
         ensures { λ r. ⌜ statsOf r ≡ countCompletion (motorOf motor) (statsOf self) ⌝ }
     {
-        let old = self.lane_completions;
-        let done = motor.index();
-        let mut counts = [0; LANES];
-        // Lane by lane, and not at the lane alone: an array whose every place is known stays in registers.
-        for lane in 0..LANES {
-            counts[lane] = add_if(lane == done, old[lane]);
+        let mut counts = self.lane_completions;
+        // Lane by lane: a known place stays in a register.
+        match motor {
+            DshotMotor::Motor1 => counts[0] = wrapping_add(counts[0]),
+            DshotMotor::Motor2 => counts[1] = wrapping_add(counts[1]),
+            DshotMotor::Motor3 => counts[2] = wrapping_add(counts[2]),
+            DshotMotor::Motor4 => counts[3] = wrapping_add(counts[3]),
         }
         self.lane_completions = counts;
         self
@@ -144,7 +143,7 @@ impl Core {
     }
 
     fn latched(self, spurious: bool, event: DshotInterruptEvent, orders: Orders) -> Handled
-        requires { ⌜ orders .count ≤ 4 ⌝ }
+        requires { ⌜ (orders .count ≤ 4) × (orders .codes < 268435456) ⌝ }
         ensures { λ r. ⌜ (r .event ≡ event) × (((l : List Order) → orders ≡ held l → r .orders ≡ held (l ++ latchOrders 4)) × (coreOf (r .core) ≡ latchFault 4 spurious (coreOf self))) ⌝ }
     {
         Handled {
@@ -156,14 +155,14 @@ impl Core {
 
     // A lane has completed. After the last lane of a frame set, the receive window opens or the set is done; after the last window, it is done.
     fn after_lane(self, paused: Orders, turned: bool, turned_back: bool) -> Handled
-        requires { ⌜ paused .count ≡ 1 ⌝ }
-        ensures { λ r. ⌜ ((motor : ℕ) → Begins paused motor → Interrupts r (afterLane 4 motor true false turned «turned_back» (coreOf self))) ⌝ }
+        requires { ⌜ (paused .count ≡ 1) × (paused .codes < 128) ⌝ }
+        ensures { λ r. ⌜ ((motor : DshotMotor) → Begins paused motor → Interrupts r (afterLane 4 (motorOf motor) true false turned «turned_back» (coreOf self))) ⌝ }
     {
         if self.frame.completion_mask != ALL_MOTORS_COMPLETE {
             return self.handled(DshotInterruptEvent::Completed, paused);
         }
         if self.frame.opens_window() {
-            let orders = paused.push(OrderKind::BeginReceive, 0);
+            let orders = paused.then(OrderKind::BeginReceive);
             if turned {
                 return self.window_opened()
                     .handled(DshotInterruptEvent::Completed, orders);
@@ -171,14 +170,14 @@ impl Core {
             return self.latched(false, DshotInterruptEvent::Faulted, orders);
         }
         if self.frame.receiving {
-            let orders = paused.push(OrderKind::EndReceive, 0);
+            let orders = paused.then(OrderKind::EndReceive);
             if turned_back {
                 return self.window_closed()
                     .handled(DshotInterruptEvent::Completed, orders);
             }
             return self.latched(false, DshotInterruptEvent::Faulted, orders);
         }
-        let orders = paused.push(OrderKind::StopFrame, 0);
+        let orders = paused.then(OrderKind::StopFrame);
         self.frame_done()
             .handled(DshotInterruptEvent::Completed, orders)
     }
@@ -193,7 +192,7 @@ impl Core {
     ) -> Handled
         ensures { λ r. ⌜ Interrupts r (Spec.onDmaInterrupt 4 (motorOf motor) «transfer_complete» «dma_error» turned «turned_back» (coreOf self)) ⌝ }
     {
-        let paused = Orders::none().push(OrderKind::PauseAndClear, motor.index() as u8);
+        let paused = Orders::paused(motor);
         if self.frame.faulted {
             return self.handled(DshotInterruptEvent::Faulted, paused);
         }

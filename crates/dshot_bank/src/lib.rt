@@ -15,8 +15,6 @@
 
 use dshot::DshotTiming;
 use dshot::MotorValues;
-use dshot_reply::DshotReplyError;
-use dshot_reply::ReplyRead;
 ghost use mathlib.Core.Path.{_≡_};
 ghost use mathlib.Core.Bool.{false};
 ghost use lib.ListN.{replicate};
@@ -114,7 +112,7 @@ impl DshotMotor {
         }
     }
 
-    pub(crate) fn completion_bit(self) -> u8
+    pub(crate) fn completion_bit(self) -> u32
         ensures { λ r. ⌜ r ≡ completionBit (motorOf self) ⌝ }
     {
         match self {
@@ -137,17 +135,13 @@ pub struct DshotStats {
     pub spurious_interrupts: u32,
 }
 
-// The lease of a demand, or none.
-pub enum Lease {
-    None,
-    Some(u32),
-}
-
 // What the motors are asked to do.
 pub struct Demand {
     pub requested_values: MotorValues,
     pub lease_started_ms: u64,
-    pub lease_duration_ms: Lease,
+    // The lease is over so many milliseconds after it started: one more than its duration. 0 without a lease. One number, and not an enum, so that
+    // it stays in a register.
+    pub lease_over_after_ms: u64,
 }
 
 // Special-command frames still to send, for one motor: the fields of its `DshotCommandSequence`, since an enum holds no array. Sent only while
@@ -169,9 +163,12 @@ pub struct Requests {
     pub command_sequence: CommandRun,
 }
 
+// In this order the fields leave no gap between them: a gap would be copied apart, and keep the struct out of registers.
 pub struct Frame {
+    // For each lane, whether the second buffer holds the sequence that it is sending, and the first its spare.
+    pub in_second: [bool; LANES],
+    pub completion_mask: u32,
     pub frame_started_ms: u64,
-    pub completion_mask: u8,
     pub busy: bool,
     pub faulted: bool,
     // Inverted checksums and a receive phase per frame set.
@@ -182,8 +179,6 @@ pub struct Frame {
     pub replies_waiting: bool,
     // The decoded replies have not been taken yet.
     pub replies_held: bool,
-    // For each lane, whether the second buffer holds the sequence that it is sending, and the first its spare.
-    pub in_second: [bool; LANES],
 }
 
 // All of the bank but the replies and their counts.
@@ -195,9 +190,27 @@ pub struct Core {
     pub stats: DshotStats,
 }
 
+// What a lane's window read as: the reading, or why there is none. `ReplyRead` in one level of cases, which takes eight bytes: a bank is passed by
+// value, and so a reply stays in a register.
+pub enum StoredReply {
+    Erpm(u32),
+    Temperature(u8),
+    Voltage(u8),
+    Current(u8),
+    // The channel, and the value.
+    Debug(u8, u8),
+    StateEvent(u8),
+    ExtendedTelemetryEnabled,
+    NoReply,
+    Overlong,
+    InvalidSymbol,
+    Checksum,
+    ZeroPeriod,
+}
+
 // A lane's reply as it was decoded last, and its accounting.
 pub struct LaneReply {
-    pub reply: ReplyRead,
+    pub reply: StoredReply,
     pub valid: u32,
     pub invalid: u32,
     // Missing or bad replies since the lane's last valid one.
@@ -217,7 +230,7 @@ impl DshotBank {
         let demand = Demand {
             requested_values: [0; LANES],
             lease_started_ms: 0,
-            lease_duration_ms: Lease::None,
+            lease_over_after_ms: 0,
         };
         let requests = Requests {
             telemetry_request: MotorChoice::None,
@@ -232,7 +245,7 @@ impl DshotBank {
             stats: DshotStats::new(),
         };
         let reply = LaneReply {
-            reply: ReplyRead::Refused(DshotReplyError::NoReply),
+            reply: StoredReply::NoReply,
             valid: 0,
             invalid: 0,
             consecutive_invalid: 0,
@@ -246,18 +259,18 @@ impl DshotBank {
 
 impl Frame {
     fn new() -> Self
-        ensures { λ r. ⌜ r ≡ record { «frame_started_ms» = 0; «completion_mask» = 0; busy = false; faulted = false; bidirectional = false; receiving = false; «replies_waiting» = false; «replies_held» = false; «in_second» = replicate 4 false } ⌝ }
+        ensures { λ r. ⌜ r ≡ record { «in_second» = replicate 4 false; «completion_mask» = 0; «frame_started_ms» = 0; busy = false; faulted = false; bidirectional = false; receiving = false; «replies_waiting» = false; «replies_held» = false } ⌝ }
     {
         Frame {
-            frame_started_ms: 0,
+            in_second: [false; LANES],
             completion_mask: 0,
+            frame_started_ms: 0,
             busy: false,
             faulted: false,
             bidirectional: false,
             receiving: false,
             replies_waiting: false,
             replies_held: false,
-            in_second: [false; LANES],
         }
     }
 }

@@ -65,8 +65,8 @@ impl DshotBank {
         run.is_some()
     }
 
-    // What `sending` would show.
-    pub fn view(self, first: &[u16], second: &[u16], motor: usize) -> View
+    // Whether `sending` shows a sequence, or why not.
+    pub fn sending_answer(self, first: &[u16], second: &[u16], motor: usize) -> View
         ensures { λ r. ⌜ _≡_ {A = Stepped} (stepped (viewAnswer r (sequenceSent (coreOf (self .core)) (record { first = now (first .entry); second = now (second .entry) }) motor)) self (record { first = now (first .entry); second = now (second .entry) })) (step 4 (stateOf self (record { first = now (first .entry); second = now (second .entry) })) (Call.sending motor)) ⌝ }
     {
         if !buffers_fit(first.len(), second.len()) {
@@ -78,7 +78,7 @@ impl DshotBank {
         View::NoSuchMotor
     }
 
-    // The sequence that a lane is sending, out of whichever buffer holds it: a part of 16 slots. Nothing, where `view` refuses.
+    // The 16 slots of the sequence that a lane is sending, a part of the buffer that its mark names. Nothing, where `sending_answer` refuses.
     pub fn sending<'a>(self, first: &'a [u16], second: &'a [u16], motor: usize) -> &'a [u16]
         ensures { λ r. ⌜ now r ≡ shown (step 4 (stateOf self (record { first = now (first .entry); second = now (second .entry) })) (Call.sending motor) .answer) ⌝ }
     {

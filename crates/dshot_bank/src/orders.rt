@@ -4,14 +4,16 @@
 //
 // The orders to the hardware that a call returns, in the order in which they are to be done.
 
+use crate::DshotMotor;
 use crate::LANES;
 ghost use mathlib.Core.Path.{_≡_};
-ghost use Prim.Native.Nat.{ℕ, _+_, _<_, _≤_};
+ghost use Prim.Native.Nat.{ℕ, _+_, _*_, _<_, _≤_};
 ghost use mathlib.Core.List.{List, [], _∷_, _++_};
 ghost use Rattle.dshot_spec.specs.Tabulate.{tabulate};
 ghost use Rattle.dshot_bank_spec.specs.Order as Spec;
-ghost use Rattle.dshot_bank_spec.specs.Order.{latchOrders, startOrders, refusedOrders};
-ghost use Rattle.dshot_bank.specs.Orders.{entry, held, kinds};
+ghost use Rattle.dshot_bank_spec.specs.Order.{exchange-buffer, latchOrders, startOrders, refusedOrders};
+ghost use Rattle.dshot_bank.specs.States.{motorOf};
+ghost use Rattle.dshot_bank.specs.Orders.{code, codesOf, above, held, kindNumber, kindAt, firstOrder, restOrders, Begins};
 
 pub enum OrderKind {
     None,
@@ -43,66 +45,203 @@ pub struct Order {
 // outputs low and every stream paused).
 pub const MOST_ORDERS: usize = 2 * LANES + 1;
 
-// The first `count` of the list; the rest are `None`.
+// `count` orders in one number, the first in its lowest seven bits: eight times the number of the order's kind, and its motor. A call returns
+// them in a register; an array would go through memory at every call.
 pub struct Orders {
     pub count: usize,
-    pub list: [Order; MOST_ORDERS],
+    pub codes: u64,
+}
+
+// The numbers of orders: eight times their kind's, to which a lane is added.
+const EXCHANGE: u64 = 8 * 1;
+
+const START: u64 = 8 * 2;
+
+const START_FRAME: u64 = 8 * 3;
+
+const FORCE_LOW: u64 = 8 * 5;
+
+const PAUSE: u64 = 8 * 6;
+
+// A number moved up by one order, by two, and so on.
+const UP: u64 = 128;
+
+const UP_2: u64 = UP * UP;
+
+const UP_3: u64 = UP * UP_2;
+
+const UP_4: u64 = UP * UP_3;
+
+// An exchange for the first lane, for the first two, and so on.
+const EXCHANGES_1: u64 = EXCHANGE;
+
+const EXCHANGES_2: u64 = EXCHANGE + UP * (EXCHANGE + 1);
+
+const EXCHANGES_3: u64 = EXCHANGE + UP * (EXCHANGE + 1 + UP * (EXCHANGE + 2));
+
+const EXCHANGES_4: u64 = EXCHANGES_3 + UP_3 * (EXCHANGE + 3);
+
+// Those, then a start for each lane, then the frame's.
+const STARTS: u64 = START + UP * (START + 1 + UP * (START + 2 + UP * (START + 3)));
+
+const STARTED: u64 = EXCHANGES_4 + UP_4 * (STARTS + UP_4 * START_FRAME);
+
+// The outputs low, and a pause for each lane.
+const PAUSES: u64 = PAUSE + UP * (PAUSE + 1 + UP * (PAUSE + 2 + UP * (PAUSE + 3)));
+
+const LATCHED: u64 = FORCE_LOW + UP * PAUSES;
+
+// Those of a latched fault, moved up by some orders.
+fn latched_above(orders: usize) -> u64
+    requires { ⌜ orders ≤ 4 ⌝ }
+    ensures { λ r. ⌜ (r ≡ above orders (codesOf (latchOrders 4))) × (r < 4611686018427387904) ⌝ }
+{
+    match orders {
+        0 => LATCHED,
+        1 => UP * LATCHED,
+        2 => UP_2 * LATCHED,
+        3 => UP_3 * LATCHED,
+        _ => UP_4 * LATCHED,
+    }
+}
+
+impl OrderKind {
+    pub fn number(self) -> u64
+        ensures { λ r. ⌜ r ≡ kindNumber self ⌝ }
+    {
+        match self {
+            OrderKind::None => 0,
+            OrderKind::ExchangeBuffer => 1,
+            OrderKind::StartDma => 2,
+            OrderKind::StartFrame => 3,
+            OrderKind::StopFrame => 4,
+            OrderKind::ForceOutputsLow => 5,
+            OrderKind::PauseAndClear => 6,
+            OrderKind::BeginReceive => 7,
+            OrderKind::EndReceive => 8,
+        }
+    }
+
+    // The kind with a number; `None` for any other number.
+    pub fn of(number: u64) -> Self
+        ensures { λ r. ⌜ r ≡ kindAt number ⌝ }
+    {
+        match number {
+            1 => OrderKind::ExchangeBuffer,
+            2 => OrderKind::StartDma,
+            3 => OrderKind::StartFrame,
+            4 => OrderKind::StopFrame,
+            5 => OrderKind::ForceOutputsLow,
+            6 => OrderKind::PauseAndClear,
+            7 => OrderKind::BeginReceive,
+            8 => OrderKind::EndReceive,
+            _ => OrderKind::None,
+        }
+    }
 }
 
 impl Orders {
-    pub(crate) fn none() -> Self
-        ensures { λ r. ⌜ (r .count ≡ 0) × (r ≡ held []) ⌝ }
+    // The first order; `None` where there is none.
+    pub fn first(self) -> Order
+        ensures { λ r. ⌜ r ≡ firstOrder self ⌝ }
     {
-        let order = Order {
-            kind: OrderKind::None,
-            motor: 0,
-        };
+        if self.count == 0 {
+            return Order {
+                kind: OrderKind::None,
+                motor: 0,
+            };
+        }
+        let code = self.codes % 128;
+        Order {
+            kind: OrderKind::of(code / 8),
+            motor: (code % 8) as u8,
+        }
+    }
+
+    // The orders after the first.
+    pub fn rest(self) -> Self
+        ensures { λ r. ⌜ r ≡ restOrders self ⌝ }
+    {
+        if self.count == 0 {
+            return self;
+        }
         Orders {
-            count: 0,
-            list: [order; MOST_ORDERS],
+            count: self.count - 1,
+            codes: self.codes / 128,
         }
     }
 
-    // One order more.
-    pub(crate) fn push(mut self, kind: OrderKind, motor: u8) -> Self
-        requires { ⌜ self .count < 9 ⌝ }
-        ensures { λ r. ⌜ (r .count ≡ self .count + 1) × ((l : List Spec.Order) (x : Spec.Order) → entry x ≡ record { kind = kind; motor = motor } → self ≡ held l → r ≡ held (l ++ (x ∷ []))) ⌝ }
+    pub(crate) fn none() -> Self
+        ensures { λ r. ⌜ (r .count ≡ 0) × (r .codes ≡ 0) × (r ≡ held []) ⌝ }
     {
-        let at = self.count;
-        let order = Order { kind, motor };
-        self.list[at] = order;
-        self.count = at + 1;
-        self
+        Orders { count: 0, codes: 0 }
     }
 
-    // One order for each of the first lanes.
-    pub(crate) fn push_each(self, kind: OrderKind, lanes: usize) -> Self
-        requires { ⌜ (self .count + lanes ≤ 9) × (lanes ≤ 4) ⌝ }
-        ensures { λ r. ⌜ (r .count ≡ self .count + lanes) × ((l : List Spec.Order) (order : ℕ → Spec.Order) → kinds order kind → self ≡ held l → r ≡ held (l ++ tabulate lanes order)) ⌝ }
+    // The order with which every interrupt begins.
+    pub(crate) fn paused(motor: DshotMotor) -> Self
+        ensures { λ r. ⌜ (r .count ≡ 1) × (r .codes < 128) × Begins r motor ⌝ }
     {
-        let mut out = self;
-        for lane in 0..lanes {
-            out = out.push(kind, lane as u8);
+        Orders {
+            count: 1,
+            codes: PAUSE + motor.index() as u64,
         }
-        out
     }
 
-    // Those of a latched fault.
+    // An order for all behind the first.
+    pub(crate) fn then(self, kind: OrderKind) -> Self
+        requires { ⌜ (self .count ≡ 1) × (self .codes < 128) ⌝ }
+        ensures { λ r. ⌜ (r .count ≡ 2) × (r .codes < 2097152) × ((x y : Spec.Order) → code y ≡ 8 * kindNumber kind → self ≡ held (x ∷ []) → r ≡ held (x ∷ y ∷ [])) ⌝ }
+    {
+        Orders {
+            count: 2,
+            codes: self.codes + UP * (8 * kind.number()),
+        }
+    }
+
+    // Those of a latched fault behind at most four others.
     pub(crate) fn latched(self) -> Self
-        requires { ⌜ self .count ≤ 4 ⌝ }
+        requires { ⌜ (self .count ≤ 4) × (self .codes < 268435456) ⌝ }
         ensures { λ r. ⌜ ((l : List Spec.Order) → self ≡ held l → r ≡ held (l ++ latchOrders 4)) ⌝ }
     {
-        let low = self.push(OrderKind::ForceOutputsLow, 0);
-        low.push_each(OrderKind::PauseAndClear, LANES)
+        Orders {
+            count: self.count + 5,
+            codes: self.codes + latched_above(self.count),
+        }
+    }
+
+    // An exchange for each of the lanes up to one.
+    fn exchanged(lane: usize) -> Self
+        requires { ⌜ lane < 4 ⌝ }
+        ensures { λ r. ⌜ (r .count ≤ 4) × (r .codes < 268435456) × (r ≡ held (tabulate (lane + 1) exchange-buffer)) ⌝ }
+    {
+        match lane {
+            0 => Orders {
+                count: 1,
+                codes: EXCHANGES_1,
+            },
+            1 => Orders {
+                count: 2,
+                codes: EXCHANGES_2,
+            },
+            2 => Orders {
+                count: 3,
+                codes: EXCHANGES_3,
+            },
+            _ => Orders {
+                count: 4,
+                codes: EXCHANGES_4,
+            },
+        }
     }
 
     // Those of a frame set that starts. All DMA streams are enabled before any timer DMA request is opened.
     pub(crate) fn started() -> Self
         ensures { λ r. ⌜ ((duties : List ℕ) → r ≡ held (startOrders 4 duties)) ⌝ }
     {
-        let exchanged = Orders::none().push_each(OrderKind::ExchangeBuffer, LANES);
-        let enabled = exchanged.push_each(OrderKind::StartDma, LANES);
-        enabled.push(OrderKind::StartFrame, 0)
+        Orders {
+            count: MOST_ORDERS,
+            codes: STARTED,
+        }
     }
 
     // Those of a frame set whose exchange is refused at a lane.
@@ -110,7 +249,6 @@ impl Orders {
         requires { ⌜ lane < 4 ⌝ }
         ensures { λ r. ⌜ r ≡ held (refusedOrders 4 lane) ⌝ }
     {
-        let exchanged = Orders::none().push_each(OrderKind::ExchangeBuffer, lane + 1);
-        exchanged.latched()
+        Orders::exchanged(lane).latched()
     }
 }

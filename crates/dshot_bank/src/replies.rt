@@ -7,7 +7,9 @@
 use crate::DshotBank;
 use crate::LANES;
 use crate::LaneReply;
+use crate::StoredReply;
 use dshot::MotorValues;
+use dshot_reply::DshotReply;
 use dshot_reply::DshotReplyError;
 use dshot_reply::REPLY_WINDOW_SAMPLES;
 use dshot_reply::ReplyRead;
@@ -15,16 +17,15 @@ use dshot_reply::decode_sampled_reply;
 ghost use mathlib.Core.Path.{_≡_};
 ghost use Prim.Native.Nat.{_*_};
 ghost use mathlib.Core.Bool.{false};
-ghost use lib.ListN.{length, getD, replicate};
-ghost use Rattle.dshot_spec.specs.Tabulate.{tabulate};
+ghost use lib.ListN.{length, replicate};
 ghost use Rattle.dshot_reply.specs.Answers.{replyAnswer};
 ghost use Rattle.dshot_bank_spec.specs.State.{Buffers};
 ghost use Rattle.dshot_bank_spec.specs.Replies.{wrappingAdd, saturatingAdd, readWindow, isOk, countReply, decodeReplies};
 ghost use Rattle.dshot_bank_spec.specs.Service.{readReplies};
 ghost use Rattle.dshot_bank_spec.specs.Calls as Call;
 ghost use Rattle.dshot_bank_spec.specs.Calls.{step, reply-counts};
-ghost use Rattle.dshot_bank.specs.States.{laneReplyOf, repliesOf, stateOf, stepped};
-ghost use Rattle.dshot_bank.specs.Answers.{noLaneReply, noTakenReply, takenAnswer, replyStatsOf};
+ghost use Rattle.dshot_bank.specs.States.{storedAnswer, laneReplyOf, repliesOf, stateOf, stepped};
+ghost use Rattle.dshot_bank.specs.Answers.{noTakenReply, answersOf, takenAnswer, replyStatsOf};
 
 // An answer of the hardware for each lane.
 pub type LaneFlags = [bool; 4];
@@ -63,21 +64,85 @@ fn saturating_add(count: u32) -> u32
     if count < u32::MAX { count + 1 } else { count }
 }
 
-fn is_ok(reply: ReplyRead) -> bool
-    ensures { λ r. ⌜ r ≡ isOk (replyAnswer reply) ⌝ }
-{
-    match reply {
-        ReplyRead::Reply(_) => true,
-        ReplyRead::Refused(_) => false,
+impl StoredReply {
+    pub(crate) fn of(reply: ReplyRead) -> Self
+        ensures { λ r. ⌜ storedAnswer r ≡ replyAnswer reply ⌝ }
+    {
+        match reply {
+            ReplyRead::Reply(read) => match read {
+                DshotReply::Erpm { erpm_div100 } => StoredReply::Erpm(erpm_div100),
+                DshotReply::Temperature { celsius } => StoredReply::Temperature(celsius),
+                DshotReply::Voltage { quarter_volts } => StoredReply::Voltage(quarter_volts),
+                DshotReply::Current { amps } => StoredReply::Current(amps),
+                DshotReply::Debug { channel, value } => StoredReply::Debug(channel, value),
+                DshotReply::StateEvent { value } => StoredReply::StateEvent(value),
+                DshotReply::ExtendedTelemetryEnabled => StoredReply::ExtendedTelemetryEnabled,
+            },
+            ReplyRead::Refused(error) => match error {
+                DshotReplyError::NoReply => StoredReply::NoReply,
+                DshotReplyError::Overlong => StoredReply::Overlong,
+                DshotReplyError::InvalidSymbol => StoredReply::InvalidSymbol,
+                DshotReplyError::Checksum => StoredReply::Checksum,
+                DshotReplyError::ZeroPeriod => StoredReply::ZeroPeriod,
+            },
+        }
+    }
+
+    // As the reader of replies gives it.
+    pub fn read(self) -> ReplyRead
+        ensures { λ r. ⌜ replyAnswer r ≡ storedAnswer self ⌝ }
+    {
+        match self {
+            StoredReply::Erpm(erpm_div100) => ReplyRead::Reply(DshotReply::Erpm { erpm_div100 }),
+            StoredReply::Temperature(celsius) => ReplyRead::Reply(DshotReply::Temperature {
+                celsius,
+            }),
+            StoredReply::Voltage(quarter_volts) => ReplyRead::Reply(DshotReply::Voltage {
+                quarter_volts,
+            }),
+            StoredReply::Current(amps) => ReplyRead::Reply(DshotReply::Current { amps }),
+            StoredReply::Debug(channel, value) => ReplyRead::Reply(DshotReply::Debug {
+                channel,
+                value,
+            }),
+            StoredReply::StateEvent(value) => ReplyRead::Reply(DshotReply::StateEvent { value }),
+            StoredReply::ExtendedTelemetryEnabled => ReplyRead::Reply(
+                DshotReply::ExtendedTelemetryEnabled,
+            ),
+            StoredReply::NoReply => ReplyRead::Refused(DshotReplyError::NoReply),
+            StoredReply::Overlong => ReplyRead::Refused(DshotReplyError::Overlong),
+            StoredReply::InvalidSymbol => ReplyRead::Refused(DshotReplyError::InvalidSymbol),
+            StoredReply::Checksum => ReplyRead::Refused(DshotReplyError::Checksum),
+            StoredReply::ZeroPeriod => ReplyRead::Refused(DshotReplyError::ZeroPeriod),
+        }
+    }
+
+    fn is_ok(self) -> bool
+        ensures { λ r. ⌜ r ≡ isOk (storedAnswer self) ⌝ }
+    {
+        match self {
+            StoredReply::Erpm(_) => true,
+            StoredReply::Temperature(_) => true,
+            StoredReply::Voltage(_) => true,
+            StoredReply::Current(_) => true,
+            StoredReply::Debug(_, _) => true,
+            StoredReply::StateEvent(_) => true,
+            StoredReply::ExtendedTelemetryEnabled => true,
+            StoredReply::NoReply => false,
+            StoredReply::Overlong => false,
+            StoredReply::InvalidSymbol => false,
+            StoredReply::Checksum => false,
+            StoredReply::ZeroPeriod => false,
+        }
     }
 }
 
 impl LaneReply {
     // The lane's record after one more reply.
-    fn counting(self, reply: ReplyRead) -> Self
-        ensures { λ r. ⌜ laneReplyOf r ≡ countReply (replyAnswer reply) (laneReplyOf self) ⌝ }
+    fn counting(self, reply: StoredReply) -> Self
+        ensures { λ r. ⌜ laneReplyOf r ≡ countReply (storedAnswer reply) (laneReplyOf self) ⌝ }
     {
-        if is_ok(reply) {
+        if reply.is_ok() {
             return LaneReply {
                 reply,
                 valid: wrapping_add(self.valid),
@@ -94,7 +159,8 @@ impl LaneReply {
     }
 }
 
-// A lane's reply, from its window. Extended telemetry is not enabled yet, so every value is read as eRPM.
+// A lane's reply, from its window. Extended telemetry is not enabled yet, so every value but its
+// acknowledgement is read as eRPM.
 fn read_window(present: bool, samples: &[u16], mask: u16) -> ReplyRead
     ensures { λ r. ⌜ replyAnswer r ≡ readWindow present (now (samples .entry)) mask ⌝ }
 {
@@ -104,7 +170,8 @@ fn read_window(present: bool, samples: &[u16], mask: u16) -> ReplyRead
     ReplyRead::Refused(DshotReplyError::NoReply)
 }
 
-// Decodes the last receive window.
+// Decodes the last receive window. All are read before any is counted: an array that is stored into at a computed place goes to memory, and so
+// the counts, which change at known places, stay in registers.
 fn decode_replies(
     old: [LaneReply; LANES],
     present: LaneFlags,
@@ -114,12 +181,17 @@ fn decode_replies(
     requires { ⌜ length (now captures) ≡ 160 * 4 ⌝ }
     ensures { λ r. ⌜ repliesOf r ≡ decodeReplies 4 present masks (now (captures .entry)) (repliesOf old) ⌝ }
 {
-    let mut replies = old;
+    let mut reads = [StoredReply::NoReply; LANES];
     for lane in 0..LANES {
         let from = REPLY_WINDOW_SAMPLES * lane;
         let to = from + REPLY_WINDOW_SAMPLES;
-        let reply = read_window(present[lane], &captures[from..to], masks[lane]);
+        let read = read_window(present[lane], &captures[from..to], masks[lane]);
+        reads[lane] = StoredReply::of(read);
+    }
+    let mut replies = old;
+    for lane in 0..LANES {
         let counts = old[lane];
+        let reply = reads[lane];
         replies[lane] = counts.counting(reply);
     }
     replies
@@ -143,13 +215,15 @@ pub(crate) fn read_replies(
 }
 
 fn replies_of(lanes: [LaneReply; LANES]) -> DshotReplies
-    ensures { λ r. ⌜ r ≡ tabulate 4 (λ i. record { reply = getD lanes i noLaneReply .reply }) ⌝ }
+    ensures { λ r. ⌜ answersOf r ≡ Call.repliesOf (repliesOf lanes) ⌝ }
 {
     let mut replies = no_replies();
     for lane in 0..LANES {
         let counts = lanes[lane];
         let reply = counts.reply;
-        replies[lane] = TakenReply { reply };
+        replies[lane] = TakenReply {
+            reply: reply.read(),
+        };
     }
     replies
 }

@@ -72,7 +72,7 @@ pub(crate) struct Sent {
 
 // ---- a fault
 
-pub(crate) fn add_if(counted: bool, count: u32) -> u32
+fn add_if(counted: bool, count: u32) -> u32
     ensures { λ r. ⌜ r ≡ pick counted (wrappingAdd count) count ⌝ }
 {
     if counted { wrapping_add(count) } else { count }
@@ -173,7 +173,13 @@ fn one_lane(motor: DshotMotor, command: u16) -> MotorValues
     ensures { λ r. ⌜ r ≡ set (replicate 4 0) (motorOf motor) command ⌝ }
 {
     let mut values = [0; LANES];
-    values[motor.index()] = command;
+    // Lane by lane: a known place stays in a register.
+    match motor {
+        DshotMotor::Motor1 => values[0] = command,
+        DshotMotor::Motor2 => values[1] = command,
+        DshotMotor::Motor3 => values[2] = command,
+        DshotMotor::Motor4 => values[3] = command,
+    }
     values
 }
 

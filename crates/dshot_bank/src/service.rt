@@ -11,7 +11,6 @@ use crate::DshotBank;
 use crate::DshotStats;
 use crate::LANES;
 use crate::LaneReply;
-use crate::Lease;
 use crate::looks::buffers_fit;
 use crate::orders::Orders;
 use crate::replies::LaneFlags;
@@ -66,12 +65,11 @@ impl Demand {
     fn expired(self, now_ms: u64) -> bool
         ensures { λ r. ⌜ r ≡ demandExpired «now_ms» (demandOf self) ⌝ }
     {
-        let started = self.lease_started_ms;
-        let lease = self.lease_duration_ms;
-        match lease {
-            Lease::Some(duration) => command_lease_expired(started, duration, now_ms),
-            Lease::None => false,
+        let lease = self.lease_over_after_ms;
+        if lease == 0 {
+            return false;
         }
+        std::num::wrapping_sub_u64(now_ms, self.lease_started_ms) >= lease
     }
 }
 

@@ -1,32 +1,32 @@
--- One number more, one interrupt more, one cycle more; orders out of their array; what is known of slices that fit; and what a call returns and
+-- One number more, one interrupt more, one cycle more; orders and their numbers; what is known of slices that fit; and what a call returns and
 -- leaves.
 -- Assumes nothing.
 use mathlib.Core.Path.{_≡_, _∙_, refl, sym, ap}
 use mathlib.Core.Bool.{Bool, true, false}
-use mathlib.Core.List.{List, [], _∷_, map}
-use Prim.Native.Nat.{ℕ, zero, suc, _+_, _-_, _*_, _%_, _^_, _<_}
+use mathlib.Core.List.{List, [], _∷_}
+use Prim.Native.Nat.{ℕ, suc, _+_, _*_, _/_, _%_, _^_}
 use native.Mathlib.Omega.{arith}
 use native.Mathlib.Numerals.{add-one}
 use lib.Dec.{eqb}
-use lib.ListN.{length, getD, take, drop, replicate, length-map}
-use lib.Seq.{drop-cons, drop-length, take-at}
+use lib.ListN.{length, getD, take, drop}
 use borrow.Author.Tests.{eqb-true}
 use Rattle.dshot_reply_spec.specs.Answer.{Answer, given, refused, pick, refusalNumber, filled}
 use Rattle.dshot_reply_spec.proofs.Answered.{refused-so, given-so}
 use Rattle.dshot_bank_spec.specs.Calls as Calls
 use Rattle.dshot_bank_spec.specs.Calls.{Call, State, Stepped, step, on-dma-interrupt}
-use Rattle.dshot_bank.specs.declared.orders.Order.{Order}
+use Rattle.dshot_bank.proofs.ReplyLaws.{fit-both}
 use Rattle.dshot_bank.specs.declared.orders.Orders.{Orders}
-use Rattle.dshot_bank.specs.Orders.{entry, noOrder, held, dutiesIn, ordersIn, Just}
-use Rattle.dshot_bank_bench.specs.Cycles.{addAll, told, Run, after, interrupts, throttlesAt, cycle, cycles, fit, firstOf, secondOf, countsOf}
+use Rattle.dshot_bank.specs.Orders.{held, dutiesIn, ordersIn, Just}
+use Rattle.dshot_bank_bench.specs.Cycles.{addAll, numbersIn, told, Run, after, interrupts, throttlesAt, cycle, cycles, fit, firstOf, secondOf, countsOf}
 
 -- ---- sums
 
-pub add-next : (ns : List ℕ) (s i : ℕ) → i < length ns → addAll s (drop i ns) ≡ addAll ((s + getD ns i 0) % 2 ^ 32) (drop (i + 1) ns)
-add-next ns s i h = rw (add-one, drop-cons ns i 0)
+-- one number more of those in a number
+pub add-next : (s n codes : ℕ) {m : ℕ} → n ≡ suc m → addAll s (numbersIn n codes) ≡ addAll ((s + codes % 128) % 2 ^ 32) (numbersIn m (codes / 128))
+add-next s n codes e = ap (λ (k : ℕ). addAll s (numbersIn k codes)) e
 
-pub add-end : (ns : List ℕ) (s i : ℕ) → i ≡ length ns → addAll s (drop i ns) ≡ s
-add-end ns s i e = rw (e, drop-length)
+pub add-end : (s n codes : ℕ) → n ≡ 0 → addAll s (numbersIn n codes) ≡ s
+add-end s n codes e = ap (λ (k : ℕ). addAll s (numbersIn k codes)) e
 
 -- four numbers
 pub four : (ns : List ℕ) → length ns ≡ 4 → ns ≡ getD ns 0 0 ∷ getD ns 1 0 ∷ getD ns 2 0 ∷ getD ns 3 0 ∷ []
@@ -39,23 +39,18 @@ four (a ∷ b ∷ c ∷ d ∷ e ∷ ns) h = absurd (omega arith)
 
 -- ---- orders
 
--- the orders of an array that holds nothing else, with the first duties
-pub told-so : (s : ℕ) (o : Orders) (d : List ℕ) (a : Calls.Answer) → Just o d a → told s (take (o .count) (o .list)) d ≡ told s (map entry (ordersIn a)) (dutiesIn (ordersIn a))
-unfolding held
-told-so s o d a j =
-    let l = ordersIn a in
-    let e : take (o .count) (o .list) ≡ map entry l =
-    ap (λ (q : Orders). take (q .count) (q .list)) (j .array) ∙ take-at (map entry l) (replicate (9 - length l) noOrder) (length l) (length-map l entry) in
-    (λ i. told s (e i) (j .duties i))
+-- those of an answer, and nothing else, with the first duties
+pub told-so : (s : ℕ) (o : Orders) (d : List ℕ) (a : Calls.Answer) → Just o d a → told s o d ≡ told s (held (ordersIn a)) (dutiesIn (ordersIn a))
+told-so s o d a j = λ i. told s (j .number i) (j .duties i)
 
 -- ---- interrupts and cycles
 
 -- what a call of the code leaves, and orders, is what the call does
-pub after-so : (s : State) (old new : ℕ) (call : Call) {x : Stepped} → x ≡ step 4 s call → new ≡ told old (map entry (ordersIn (x .answer))) (dutiesIn (ordersIn (x .answer)))
+pub after-so : (s : State) (old new : ℕ) (call : Call) {x : Stepped} → x ≡ step 4 s call → new ≡ told old (held (ordersIn (x .answer))) (dutiesIn (ordersIn (x .answer)))
     → _≡_ {A = Run} (record { state = x .state; sum = new }) (after (record { state = s; sum = old }) call)
 after-so s old new call {x} e h =
     (λ j. record { state = x .state; sum = h j })
-    ∙ (λ j. record { state = e j .state; sum = told old (map entry (ordersIn (e j .answer))) (dutiesIn (ordersIn (e j .answer))) })
+    ∙ (λ j. record { state = e j .state; sum = told old (held (ordersIn (e j .answer))) (dutiesIn (ordersIn (e j .answer))) })
 
 pub interrupts-more : (i : ℕ) (r : Run) → interrupts (i + 1) r ≡ after (interrupts i r) (on-dma-interrupt (i % 4) true false true true)
 unfolding interrupts
@@ -70,18 +65,13 @@ module _ (present : Bool) (mask count : ℕ) (throttles captures : List ℕ) (r 
 
 -- ---- lengths
 
--- two tests that hold
-both : (t u : Bool) → pick t u false ≡ true → (t ≡ true) × (u ≡ true)
-both true u e = (refl, e)
-both false u e = let z : _≡_ {A = ℕ} 0 1 = cc in absurd (omega arith)
-
 -- the lengths that the loops go by
 pub lengths-of : (n throttles first second numbers : ℕ) → fit n throttles first second numbers ≡ true → (throttles ≡ 4 * n) × (numbers ≡ 24)
 unfolding fit
 lengths-of n throttles first second numbers e =
-    let p = both (eqb throttles (4 * n)) _ e in
-    let q = both (eqb first 64) _ (p .1) in
-    let r = both (eqb second 64) (eqb numbers 24) (q .1) in
+    let p = fit-both (eqb throttles (4 * n)) _ e in
+    let q = fit-both (eqb first 64) _ (p .1) in
+    let r = fit-both (eqb second 64) (eqb numbers 24) (q .1) in
     (eqb-true throttles (4 * n) (p .0), eqb-true numbers 24 (r .1))
 
 -- ---- what is returned and left by a call that is refused, and by one that is not

@@ -3,7 +3,7 @@
 -- Assumes nothing.
 use Prim.Native.Nat.{ℕ, zero, suc, _+_, _*_, _/_, _%_, _^_}
 use mathlib.Core.Bool.{Bool, true, false, not}
-use mathlib.Core.List.{List, [], _∷_, map}
+use mathlib.Core.List.{List, [], _∷_}
 use lib.Dec.{eqb}
 use lib.ListN.{length, getD, take, drop, replicate}
 use Rattle.dshot_reply_spec.specs.Answer.{pick, wrongLength}
@@ -13,10 +13,8 @@ use Rattle.dshot_spec.specs.Tabulate.{tabulate}
 use Rattle.dshot_bank_spec.specs.State.{Stats, LaneReply, Bank, Buffers}
 use Rattle.dshot_bank_spec.specs.Commands.{fromLanes}
 use Rattle.dshot_bank_spec.specs.Calls.{Call, State, step, enable-bidirectional, command-throttles, service-call, on-dma-interrupt}
-use Rattle.dshot_bank.specs.declared.orders.OrderKind.{OrderKind}
-use Rattle.dshot_bank.specs.declared.orders.OrderKind.the-variants.{None, ExchangeBuffer, StartDma, StartFrame, StopFrame, ForceOutputsLow, PauseAndClear, BeginReceive, EndReceive}
-use Rattle.dshot_bank.specs.declared.orders.Order.{Order}
-use Rattle.dshot_bank.specs.Orders.{entry, dutiesIn, ordersIn}
+use Rattle.dshot_bank.specs.declared.orders.Orders.{Orders}
+use Rattle.dshot_bank.specs.Orders.{held, dutiesIn, ordersIn}
 
 -- ---- the sum of what is ordered, modulo 2 ^ 32
 
@@ -24,23 +22,14 @@ abbrev pub addAll : ℕ → List ℕ → ℕ
 addAll s [] = s
 addAll s (n ∷ ns) = addAll ((s + n) % 2 ^ 32) ns
 
-abbrev pub kindNumber : OrderKind → ℕ
-kindNumber None = 0
-kindNumber ExchangeBuffer = 1
-kindNumber StartDma = 2
-kindNumber StartFrame = 3
-kindNumber StopFrame = 4
-kindNumber ForceOutputsLow = 5
-kindNumber PauseAndClear = 6
-kindNumber BeginReceive = 7
-kindNumber EndReceive = 8
-
-abbrev pub orderNumber : Order → ℕ
-orderNumber o = 8 * kindNumber (o .kind) + o .motor
+-- the numbers of so many orders in one, seven bits each, the first lowest
+abbrev pub numbersIn : ℕ → ℕ → List ℕ
+numbersIn zero codes = []
+numbersIn (suc n) codes = codes % 128 ∷ numbersIn n (codes / 128)
 
 -- with the numbers of some orders, and their first duties
-abbrev pub told : ℕ → List Order → List ℕ → ℕ
-told s orders duties = addAll (addAll s (map orderNumber orders)) duties
+abbrev pub told : ℕ → Orders → List ℕ → ℕ
+told s o duties = addAll (addAll s (numbersIn (o .count) (o .codes))) duties
 
 -- ---- calls and cycles
 
@@ -53,7 +42,7 @@ pub record Run : Type 0 where
 abbrev pub after : Run → Call → Run
 after r call =
     let x = step 4 (r .state) call in
-    record { state = x .state; sum = told (r .sum) (map entry (ordersIn (x .answer))) (dutiesIn (ordersIn (x .answer))) }
+    record { state = x .state; sum = told (r .sum) (held (ordersIn (x .answer))) (dutiesIn (ordersIn (x .answer))) }
 
 -- what a call leaves that orders nothing
 abbrev pub past : Run → Call → Run

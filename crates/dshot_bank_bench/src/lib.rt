@@ -4,23 +4,18 @@ use dshot::DshotTiming;
 use dshot::MotorValues;
 use dshot_bank::DshotBank;
 use dshot_bank::LANES;
-use dshot_bank::orders::MOST_ORDERS;
-use dshot_bank::orders::Order;
-use dshot_bank::orders::OrderKind;
-use dshot_reply::DshotReply;
-use dshot_reply::ReplyRead;
+use dshot_bank::StoredReply;
+use dshot_bank::orders::Orders;
 ghost use mathlib.Core.Path.{_≡_};
 ghost use Prim.Native.Nat.{_*_, _≤_};
 ghost use mathlib.Core.Bool.{true, false};
-ghost use mathlib.Core.List.{map};
-ghost use lib.ListN.{length, take, replicate};
+ghost use lib.ListN.{length, replicate};
 ghost use Rattle.dshot_reply_spec.specs.Answer.{refusalNumber, filled};
 ghost use Rattle.dshot_spec.specs.Tabulate.{tabulate};
-ghost use Rattle.dshot_reply.specs.Answers.{replyAnswer};
 ghost use Rattle.dshot_bank_spec.specs.State.{Buffers};
 ghost use Rattle.dshot_bank_spec.specs.Calls.{command-throttles, service-call, on-dma-interrupt};
-ghost use Rattle.dshot_bank.specs.States.{bankOf};
-ghost use Rattle.dshot_bank_bench.specs.Cycles.{addAll, kindNumber, orderNumber, after, past, fit, speed, countAt, asked, firstOf, secondOf, countsOf};
+ghost use Rattle.dshot_bank.specs.States.{storedAnswer, bankOf};
+ghost use Rattle.dshot_bank_bench.specs.Cycles.{addAll, numbersIn, after, past, fit, speed, countAt, asked, firstOf, secondOf, countsOf};
 ghost use Rattle.dshot_bank_bench.specs.Runs.{runOf};
 ghost use Rattle.dshot_bank_bench.specs.Cycles as Spec;
 
@@ -35,40 +30,17 @@ struct Run {
     pub sum: u32,
 }
 
-fn kind_number(kind: OrderKind) -> u32
-    ensures { λ r. ⌜ (r ≡ kindNumber kind) × (r ≤ 8) ⌝ }
+// Each order is looked at, and its number added.
+fn add_orders(start: u32, orders: Orders) -> u32
+    ensures { λ r. ⌜ r ≡ addAll start (numbersIn (orders .count) (orders .codes)) ⌝ }
 {
-    match kind {
-        OrderKind::None => 0,
-        OrderKind::ExchangeBuffer => 1,
-        OrderKind::StartDma => 2,
-        OrderKind::StartFrame => 3,
-        OrderKind::StopFrame => 4,
-        OrderKind::ForceOutputsLow => 5,
-        OrderKind::PauseAndClear => 6,
-        OrderKind::BeginReceive => 7,
-        OrderKind::EndReceive => 8,
-    }
-}
-
-fn order_number(order: Order) -> u32
-    ensures { λ r. ⌜ r ≡ orderNumber order ⌝ }
-{
-    let kind = order.kind;
-    8 * kind_number(kind) + order.motor as u32
-}
-
-fn add_orders(start: u32, count: usize, list: [Order; MOST_ORDERS]) -> u32
-    ensures { λ r. ⌜ r ≡ addAll start (map orderNumber (take count list)) ⌝ }
-{
+    let count = orders.count;
+    let mut codes = orders.codes;
     let mut sum = start;
     let mut i = 0;
-    while i < MOST_ORDERS {
-        if i >= count {
-            return sum;
-        }
-        let order = list[i];
-        sum = std::num::wrapping_add_u32(sum, order_number(order));
+    while i < count {
+        sum = std::num::wrapping_add_u32(sum, (codes % 128) as u32);
+        codes = codes / 128;
         i += 1;
     }
     sum
@@ -92,8 +64,7 @@ impl Run {
         let done = self.bank.on_dma_interrupt(lane, true, false, true, true);
         let bank = done.bank;
         let orders = done.orders;
-        let list = orders.list;
-        let sum = add_duties(add_orders(sum, orders.count, list), [0; LANES]);
+        let sum = add_duties(add_orders(sum, orders), [0; LANES]);
         Run { bank, sum }
     }
 
@@ -144,9 +115,8 @@ impl Run {
         );
         let bank = served.bank;
         let orders = served.orders;
-        let list = orders.list;
         let duties = served.first_duties;
-        let sum = add_duties(add_orders(sum, orders.count, list), duties);
+        let sum = add_duties(add_orders(sum, orders), duties);
         Run { bank, sum }
     }
 
@@ -212,23 +182,22 @@ fn cycles_from(
 }
 
 // The speed that a reply reads as, or 0.
-fn speed_of(reply: ReplyRead) -> u32
-    ensures { λ r. ⌜ r ≡ speed (replyAnswer reply) ⌝ }
+fn speed_of(reply: StoredReply) -> u32
+    ensures { λ r. ⌜ r ≡ speed (storedAnswer reply) ⌝ }
 {
     match reply {
-        ReplyRead::Reply(read) => match read {
-            DshotReply::Erpm { erpm_div100 } => erpm_div100,
-            DshotReply::Temperature { celsius: _ } => 0,
-            DshotReply::Voltage { quarter_volts: _ } => 0,
-            DshotReply::Current { amps: _ } => 0,
-            DshotReply::Debug {
-                channel: _,
-                value: _,
-            } => 0,
-            DshotReply::StateEvent { value: _ } => 0,
-            DshotReply::ExtendedTelemetryEnabled => 0,
-        },
-        ReplyRead::Refused(_) => 0,
+        StoredReply::Erpm(erpm_div100) => erpm_div100,
+        StoredReply::Temperature(_) => 0,
+        StoredReply::Voltage(_) => 0,
+        StoredReply::Current(_) => 0,
+        StoredReply::Debug(_, _) => 0,
+        StoredReply::StateEvent(_) => 0,
+        StoredReply::ExtendedTelemetryEnabled => 0,
+        StoredReply::NoReply => 0,
+        StoredReply::Overlong => 0,
+        StoredReply::InvalidSymbol => 0,
+        StoredReply::Checksum => 0,
+        StoredReply::ZeroPeriod => 0,
     }
 }
 

@@ -1,4 +1,5 @@
-// Makes the call of a line, by its code: 0 to 7 in demands.rt, 8 in services.rt, 9 in interrupts.rt, 10 to 17 in looks.rt, 18 to 20 in sets.rt.
+// Makes the call of a line, by its code: 0 to 7 in demands.rt, 8 in services.rt, 9 in interrupts.rt, 10 to 17 and 21 in looks.rt, 18 to 20 in
+// sets.rt.
 //
 // A line is unreadable where its code is none of these, where it has too few or too many numbers, or one that the call cannot take: one that is out
 // of range for its type, a flag that is neither 0 nor 1, or a length above that of the buffers here.
@@ -36,6 +37,7 @@ pub(crate) fn make(
         18 => sets::slot(given, bank, first, second),
         19 => sets::stats(given, bank),
         20 => sets::reply_stats(given, bank),
+        21 => looks::release_due(given, bank),
         _ => outcome::unreadable(bank),
     }
 }

@@ -2,7 +2,7 @@
 
 use crate::part::MOST;
 use crate::part::Part;
-use crate::widths::wide32;
+use case_text::widths::wide32;
 use dshot_bank::DshotStats;
 use dshot_bank::replies::DshotReplyStats;
 

@@ -8,23 +8,33 @@ use crate::part::Part;
 use crate::put;
 use crate::put::BYTES;
 use crate::replies;
-use crate::widths::flag;
-use crate::widths::wide8;
-use crate::widths::wide16;
-use crate::widths::wide32;
+use case_text::widths::flag;
+use case_text::widths::wide8;
+use case_text::widths::wide16;
+use case_text::widths::wide32;
+use dshot::DshotTiming;
 use dshot_bank::CommandRun;
 use dshot_bank::Demand;
 use dshot_bank::DshotBank;
 use dshot_bank::Frame;
-use dshot_bank::Lease;
 use dshot_bank::Requests;
 
+// No call on a bank changes it: it is printed so that one that did would show.
+fn of_timing(timing: DshotTiming) -> Part {
+    part::four(
+        wide16(timing.arr),
+        wide16(timing.zero_high),
+        wide16(timing.one_high),
+        wide16(timing.reply_sample_arr),
+    )
+}
+
 // 0, or 1 and the lease.
-fn of_lease(lease: Lease) -> Part {
-    match lease {
-        Lease::None => part::one(0),
-        Lease::Some(duration) => part::two(1, wide32(duration)),
+fn of_lease(over_after: u64) -> Part {
+    if over_after == 0 {
+        return part::one(0);
     }
+    part::two(1, over_after - 1)
 }
 
 // 0, or the motor and the run.
@@ -52,7 +62,7 @@ fn of_run(run: CommandRun) -> Part {
 fn of_frame(frame: Frame) -> Part {
     let mut list = [0; MOST];
     list[0] = frame.frame_started_ms;
-    list[1] = wide8(frame.completion_mask);
+    list[1] = wide32(frame.completion_mask);
     list[2] = flag(frame.busy);
     list[3] = flag(frame.faulted);
     list[4] = flag(frame.bidirectional);
@@ -74,10 +84,9 @@ fn of_marks(frame: Frame) -> Part {
 
 fn put_demand(out: &mut [u8; BYTES], at: usize, demand: Demand) -> usize {
     let values = demand.requested_values;
-    let lease = demand.lease_duration_ms;
     let valued = put::part(out, at, part::of_values(values));
     let started = put::number(out, valued, demand.lease_started_ms);
-    put::part(out, started, of_lease(lease))
+    put::part(out, started, of_lease(demand.lease_over_after_ms))
 }
 
 fn put_requests(out: &mut [u8; BYTES], at: usize, requests: Requests) -> usize {
@@ -93,7 +102,8 @@ fn put_requests(out: &mut [u8; BYTES], at: usize, requests: Requests) -> usize {
 pub(crate) fn put_fields(out: &mut [u8; BYTES], at: usize, bank: DshotBank) -> usize {
     let core = bank.core;
     let frame = core.frame;
-    let demanded = put_demand(out, at, core.demand);
+    let timed = put::part(out, at, of_timing(core.timing));
+    let demanded = put_demand(out, timed, core.demand);
     let requested = put_requests(out, demanded, core.requests);
     let framed = put::part(out, requested, of_frame(frame));
     let replied = put::part(out, framed, replies::of_taken(bank.take_replies()));

@@ -1,6 +1,7 @@
-// Makes the calls of codes 10 to 16, which have no arguments, and of 17: what is looked at, and the replies.
+// Makes the calls of codes 10 to 16, which have no arguments, of 17 and of 21: what is looked at, the replies, and whether a release is due.
 
 use crate::counts;
+use crate::numbers::all_up_to;
 use crate::outcome;
 use crate::outcome::Outcome;
 use crate::part;
@@ -8,9 +9,12 @@ use crate::part::MOST;
 use crate::part::Part;
 use crate::refusals;
 use crate::replies;
-use crate::widths::flag;
-use crate::widths::wide16;
+use crate::widths::MOST_32;
+use crate::widths::narrow32;
+use case_text::widths::flag;
+use case_text::widths::wide16;
 use dshot_bank::DshotBank;
+use dshot_bank::fallback_release_due;
 
 fn take_replies(bank: DshotBank) -> Outcome {
     let taken = bank.take_replies();
@@ -69,8 +73,20 @@ pub(crate) fn view<'a>(
     let motor = given[0] as usize;
     let in_first = given[1] as usize;
     let in_second = given[2] as usize;
-    let shown = bank.view(&first[0..in_first], &second[0..in_second], motor);
+    let shown = bank.sending_answer(&first[0..in_first], &second[0..in_second], motor);
     let refusal = refusals::of_view(shown);
     let slots = bank.sending(&first[0..in_first], &second[0..in_second], motor);
     outcome::answered(of_view(refusal, slots), bank)
+}
+
+// 21 NOW LAST, which asks no bank
+pub(crate) fn release_due(given: &[u64], bank: DshotBank) -> Outcome {
+    if given.len() != 2 {
+        return outcome::unreadable(bank);
+    }
+    if !all_up_to(given, MOST_32) {
+        return outcome::unreadable(bank);
+    }
+    let is_due = fallback_release_due(narrow32(given[0]), narrow32(given[1]));
+    outcome::answered(part::one(flag(is_due)), bank)
 }

@@ -27,14 +27,11 @@ mod widths;
 
 use crate::put::BYTES;
 use crate::slots::ROOM;
+use case_text::numbers::find;
+use case_text::widths::one_more;
 use dshot_bank::DshotBank;
 use libc::STDIN_FILENO;
 use libc::STDOUT_FILENO;
-
-// One more, up to the largest number, which no list comes near.
-fn one_more(n: u64) -> u64 {
-    if n < u64::MAX { n + 1 } else { n }
-}
 
 fn run_list(text: &[u8]) {
     let mut bank = DshotBank::from_lanes(demands::timing(0, 0, 0, 0));
@@ -45,7 +42,7 @@ fn run_list(text: &[u8]) {
     let mut number: u64 = 0;
     let mut at: usize = 0;
     while at < text.len() {
-        let end = numbers::find(text, at, b'\n');
+        let end = find(text, at, b'\n');
         let next = end + 1;
         number = one_more(number);
         let done = line::run(

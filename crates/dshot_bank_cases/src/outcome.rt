@@ -4,9 +4,6 @@ use crate::part;
 use crate::part::Part;
 use dshot::MotorValues;
 use dshot_bank::DshotBank;
-use dshot_bank::orders::MOST_ORDERS;
-use dshot_bank::orders::Order;
-use dshot_bank::orders::OrderKind;
 use dshot_bank::orders::Orders;
 
 // The answer, the orders with the first duties, and the bank after it, where the line can be read; else nothing but the bank before it.
@@ -19,14 +16,7 @@ pub struct Outcome {
 }
 
 fn no_orders() -> Orders {
-    let order = Order {
-        kind: OrderKind::None,
-        motor: 0,
-    };
-    Orders {
-        count: 0,
-        list: [order; MOST_ORDERS],
-    }
+    Orders { count: 0, codes: 0 }
 }
 
 pub(crate) fn unreadable(bank: DshotBank) -> Outcome {

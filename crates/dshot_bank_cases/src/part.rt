@@ -1,6 +1,6 @@
 // The numbers of a part of a line.
 
-use crate::widths::wide16;
+use case_text::widths::wide16;
 use dshot::MotorValues;
 
 // The most: those of a view.

@@ -2,7 +2,7 @@
 
 use crate::put;
 use crate::put::BYTES;
-use crate::widths::wide16;
+use case_text::widths::wide16;
 
 // The slots of a sequence buffer: more than the bank takes, so that it can be lent too many.
 pub const ROOM: usize = 80;

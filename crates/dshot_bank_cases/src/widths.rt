@@ -1,25 +1,9 @@
-// Numbers of other widths as the 64-bit ones of a list, and back.
+// The 64-bit numbers of a list as numbers of other widths.
 
 // The largest numbers of two widths.
 pub const MOST_16: u64 = 0xffff;
 
 pub const MOST_32: u64 = 0xffff_ffff;
-
-pub(crate) fn wide8(x: u8) -> u64 {
-    x as u64
-}
-
-pub(crate) fn wide16(x: u16) -> u64 {
-    x as u64
-}
-
-pub(crate) fn wide32(x: u32) -> u64 {
-    x as u64
-}
-
-pub(crate) fn flag(x: bool) -> u64 {
-    if x { 1 } else { 0 }
-}
 
 // Each call tests its numbers before it narrows them, by `numbers::all_up_to`: a number that is too large, and would become 0 here, ends the run
 // there. So no proof has to carry the test along.

@@ -4,10 +4,9 @@ use mathlib.Core.Path.{_≡_, _∙_, sym, ap}
 use Prim.Native.Nat.{ℕ, _/_, _%_}
 use lib.ListN.{getD, List·getD-map}
 use borrow.Author.Tests.{ne-eqb}
-use Rattle.dshot_reply.specs.declared.DshotReply.the-variants.{Erpm}
-use Rattle.dshot_reply.specs.declared.ReplyRead.the-variants.{Reply}
 use Rattle.dshot_bank_spec.specs.State as Spec
 use Rattle.dshot_bank.specs.declared.DshotBank.{DshotBank}
+use Rattle.dshot_bank.specs.declared.StoredReply.the-variants.{Erpm}
 use Rattle.dshot_bank.specs.declared.LaneReply.{LaneReply}
 use Rattle.dshot_bank.specs.States.{statsOf, laneReplyOf, repliesOf}
 use Rattle.dshot_bank_bench.specs.Cycles.{speed, bankCounts, countOf, noLane, countAt}
@@ -38,7 +37,7 @@ array-read-result-2 c = search needs
 
 -- what would stand where there is no lane
 abbrev none : LaneReply
-none = record { reply = Reply (Erpm 0); valid = 0; invalid = 0; «consecutive_invalid» = 0 }
+none = record { reply = Erpm 0; valid = 0; invalid = 0; «consecutive_invalid» = 0 }
 
 -- what is told, with the kind of count left open
 abbrev told : DshotBank → ℕ → ℕ → ℕ → ℕ

@@ -5,9 +5,10 @@ use mathlib.Core.Bool.{not}
 use mathlib.Core.List.{[]}
 use borrow.Author.Tests.{eq-eqb, ne-eqb}
 use Rattle.dshot_bank_spec.proofs.LaneLaws.{on, off}
-use Rattle.dshot_bank_spec.specs.Order.{stop-frame, pause-and-clear, begin-receive, end-receive}
+use Rattle.dshot_bank_spec.specs.Order.{stop-frame, begin-receive, end-receive}
+use native.Mathlib.Omega.{arith}
 use Rattle.dshot_bank_spec.specs.Interrupt.{afterLane}
-use Rattle.dshot_bank.proofs.InterruptLaws.{quiet-none, quiet-latched, quiet-cons, settled, by-handled, by-latched}
+use Rattle.dshot_bank.proofs.InterruptLaws.{quiet-none, quiet-latched, quiet-paused, quiet-then, settled, by-handled, by-latched}
 use borrow.Author.Needs.{needs}
 use Rattle.dshot_bank.proofs.Core.after_lane.Statement.{statement}
 use Rattle.dshot_bank.proofs.Core.after_lane.Tie as tie
@@ -19,13 +20,13 @@ returns : tie.Need-returns
 unfolding afterLane
 returns c = λ motor begins.
     settled (on _ _ (ap not (ne-eqb _ 15 (c .before .if1 .taken))) refl)
-    (by-handled (c .handled .ensures) begins refl (quiet-cons (pause-and-clear motor) [] refl refl quiet-none))
+    (by-handled (c .handled .ensures) begins refl (quiet-paused motor [] quiet-none))
 
 opens-window-requires : tie.Need-opens-window-requires
 opens-window-requires c κs = search needs
 
-push-requires : tie.Need-push-requires
-push-requires c κs = search needs
+then-requires : tie.Need-then-requires
+then-requires c κs = search needs
 
 window-opened-requires : tie.Need-window-opened-requires
 window-opened-requires c κs = search needs
@@ -40,8 +41,8 @@ returns-2 c = λ motor begins.
     let e = d .before .before in
     let opens = sym (e .before .opens-window .ensures) ∙ e .if2 .taken in
     settled (off _ _ (ap not (eq-eqb _ 15 (e .before .before .if1 .left))) (on _ _ opens (on _ _ (d .if3 .taken) refl)))
-    (by-handled (c .handled2 .ensures) (d .before .push .ensures .1 _ begin-receive refl begins) (c .before .window-opened .ensures)
-    (quiet-cons (pause-and-clear motor) _ refl refl (quiet-cons begin-receive [] refl refl quiet-none)))
+    (by-handled (c .handled2 .ensures) (d .before .then .ensures .2 _ begin-receive refl begins) (c .before .window-opened .ensures)
+    (quiet-then motor begin-receive _ (record { small = omega arith; order = refl }) refl quiet-none))
 
 latched-requires : tie.Need-latched-requires
 latched-requires c κs = search needs
@@ -53,11 +54,11 @@ returns-3 c = λ motor begins.
     let e = d .before .before in
     let opens = sym (e .before .opens-window .ensures) ∙ e .if2 .taken in
     settled (off _ _ (ap not (eq-eqb _ 15 (e .before .before .if1 .left))) (on _ _ opens (off _ _ (d .if3 .left) refl)))
-    (by-latched _ (c .latched .ensures) (d .before .push .ensures .1 _ begin-receive refl begins)
-    (quiet-cons (pause-and-clear motor) _ refl refl (quiet-cons begin-receive _ refl refl quiet-latched)))
+    (by-latched _ (c .latched .ensures) (d .before .then .ensures .2 _ begin-receive refl begins)
+    (quiet-then motor begin-receive _ (record { small = omega arith; order = refl }) refl quiet-latched))
 
-push-requires-2 : tie.Need-push-requires-2
-push-requires-2 c κs = search needs
+then-requires-2 : tie.Need-then-requires-2
+then-requires-2 c κs = search needs
 
 window-closed-requires : tie.Need-window-closed-requires
 window-closed-requires c κs = search needs
@@ -72,8 +73,8 @@ returns-4 c = λ motor begins.
     let e = d .before .before in
     let opens = sym (e .before .before .opens-window .ensures) ∙ e .before .if2 .left in
     settled (off _ _ (ap not (eq-eqb _ 15 (e .before .before .before .if1 .left))) (off _ _ opens (on _ _ (e .if4 .taken) (on _ _ (d .if5 .taken) refl))))
-    (by-handled (c .handled3 .ensures) (d .before .push2 .ensures .1 _ end-receive refl begins) (c .before .window-closed .ensures)
-    (quiet-cons (pause-and-clear motor) _ refl refl (quiet-cons end-receive [] refl refl quiet-none)))
+    (by-handled (c .handled3 .ensures) (d .before .then2 .ensures .2 _ end-receive refl begins) (c .before .window-closed .ensures)
+    (quiet-then motor end-receive _ (record { small = omega arith; order = refl }) refl quiet-none))
 
 latched-requires-2 : tie.Need-latched-requires-2
 latched-requires-2 c κs = search needs
@@ -85,11 +86,11 @@ returns-5 c = λ motor begins.
     let e = d .before .before in
     let opens = sym (e .before .before .opens-window .ensures) ∙ e .before .if2 .left in
     settled (off _ _ (ap not (eq-eqb _ 15 (e .before .before .before .if1 .left))) (off _ _ opens (on _ _ (e .if4 .taken) (off _ _ (d .if5 .left) refl))))
-    (by-latched _ (c .latched2 .ensures) (d .before .push2 .ensures .1 _ end-receive refl begins)
-    (quiet-cons (pause-and-clear motor) _ refl refl (quiet-cons end-receive _ refl refl quiet-latched)))
+    (by-latched _ (c .latched2 .ensures) (d .before .then2 .ensures .2 _ end-receive refl begins)
+    (quiet-then motor end-receive _ (record { small = omega arith; order = refl }) refl quiet-latched))
 
-push-requires-3 : tie.Need-push-requires-3
-push-requires-3 c κs = search needs
+then-requires-3 : tie.Need-then-requires-3
+then-requires-3 c κs = search needs
 
 frame-done-requires : tie.Need-frame-done-requires
 frame-done-requires c κs = search needs
@@ -104,8 +105,8 @@ returns-6 c = λ motor begins.
     let e = d .before in
     let opens = sym (e .before .before .opens-window .ensures) ∙ e .before .if2 .left in
     settled (off _ _ (ap not (eq-eqb _ 15 (e .before .before .before .if1 .left))) (off _ _ opens (off _ _ (e .if4 .left) refl)))
-    (by-handled (c .handled4 .ensures) (d .push3 .ensures .1 _ stop-frame refl begins) (c .before .frame-done .ensures)
-    (quiet-cons (pause-and-clear motor) _ refl refl (quiet-cons stop-frame [] refl refl quiet-none)))
+    (by-handled (c .handled4 .ensures) (d .then3 .ensures .2 _ stop-frame refl begins) (c .before .frame-done .ensures)
+    (quiet-then motor stop-frame _ (record { small = omega arith; order = refl }) refl quiet-none))
 
 pub after-lane-spec : {M : Type 1} → statement M
 after-lane-spec =
@@ -114,19 +115,19 @@ after-lane-spec =
     handled-requires
     returns
     opens-window-requires
-    push-requires
+    then-requires
     window-opened-requires
     handled-requires-2
     returns-2
     latched-requires
     returns-3
-    push-requires-2
+    then-requires-2
     window-closed-requires
     handled-requires-3
     returns-4
     latched-requires-2
     returns-5
-    push-requires-3
+    then-requires-3
     frame-done-requires
     handled-requires-4
     returns-6)

@@ -23,7 +23,7 @@ returns c = record {
   started = refl;
   orders = c .refused .ensures;
   duties = duties-refused (c .before .before .before .args .lane);
-  whole = whole-refused (c .before .before .before .args .lane);
+  whole = whole-refused (c .before .before .before .args .lane) (c .before .before .before .pre);
   core = c .before .latch-fault .ensures ∙ ap (latchFault 4 false) (c .before .before .marks-turned .ensures);
 }
 

@@ -42,7 +42,7 @@ returns c =
     subst (λ (s : Spec.Skipped). Skips (record { event = Faulted; orders = c .before .before .latched .result; core = c .latch-fault .result }) s) (on _ _ test refl)
     (record {
       event = refl;
-      orders = c .before .before .latched .ensures [] (c .before .before .before .none .ensures .1);
+      orders = c .before .before .latched .ensures [] (c .before .before .before .none .ensures .2);
       duties = duties-latched;
       whole = whole-latched;
       core = c .latch-fault .ensures ∙ ap (latchFault 4 false) (c .before .timeout-counted .ensures ∙ ap countTimeout e);
@@ -57,7 +57,7 @@ returns-2 c =
     let e = c .before .before .before .before .skip-counted .ensures in
     let test = sym (ap (λ (q : State.Core). leaseExpired (q .frame .startedMs) 1 (c .before .before .before .before .before .args .now-ms)) e) ∙ sym (c .before .before .before .command-lease-expired .ensures) ∙ c .before .before .if1 .left in
     subst (λ (s : Spec.Skipped). Skips (record { event = LeaseExpired; orders = c .none2 .result; core = c .before .before .before .before .skip-counted .result }) s) (off _ _ test (on _ _ (c .before .if2 .taken) refl))
-    (record { event = refl; orders = c .none2 .ensures .1; duties = refl; whole = whole-none; core = e })
+    (record { event = refl; orders = c .none2 .ensures .2; duties = refl; whole = whole-none; core = e })
 
 none-requires-3 : tie.Need-none-requires-3
 none-requires-3 c κs = search needs
@@ -68,7 +68,7 @@ returns-3 c =
     let e = c .before .before .before .before .skip-counted .ensures in
     let test = sym (ap (λ (q : State.Core). leaseExpired (q .frame .startedMs) 1 (c .before .before .before .before .before .args .now-ms)) e) ∙ sym (c .before .before .before .command-lease-expired .ensures) ∙ c .before .before .if1 .left in
     subst (λ (s : Spec.Skipped). Skips (record { event = Busy; orders = c .none3 .result; core = c .before .before .before .before .skip-counted .result }) s) (off _ _ test (off _ _ (c .before .if2 .left) refl))
-    (record { event = refl; orders = c .none3 .ensures .1; duties = refl; whole = whole-none; core = e })
+    (record { event = refl; orders = c .none3 .ensures .2; duties = refl; whole = whole-none; core = e })
 
 pub service-busy-spec : {M : Type 1} → statement M
 service-busy-spec =

@@ -50,7 +50,7 @@ returns-2 c =
     let a = f .before .args in
     let missing = sym (ap choiceOf (c .before .enum-told .given .1)) ∙ f .from-index .ensures in (
       λ b. missing-step _ (λ (i : ℕ). on-dma-interrupt i (a .transfer-complete) (a .dma-error) (a .turned) (a .turned-back)) (λ i. refl) _ missing,
-      just (c .none .result) (replicate 4 0) [] (refused noSuchMotor) (c .none .ensures .1) refl refl,
+      just (c .none .result) (replicate 4 0) [] (refused noSuchMotor) (c .none .ensures .2) refl refl,
     )
 
 pub on-dma-interrupt-spec : {M : Type 1} → statement M

@@ -1,16 +1,14 @@
 -- `dshot_bank::DshotBank::sending` meets its contract: nothing where the port refuses, else the lane's part of the buffer that its mark names.
 -- Assumes nothing.
 use mathlib.Core.Path.{_∙_, refl, sym, ap}
-use mathlib.Core.List.{List}
-use Prim.Native.Nat.{ℕ, _*_}
 use native.Mathlib.Omega.{arith}
-use lib.ListN.{length, take, drop}
+use lib.ListN.{length}
 use borrow.Author.Needs.{needs}
 use borrow.Author.Tests.{lt-ltb, le-ltb, not-true, not-false}
 use Rattle.dshot_bank_spec.specs.Calls.{Stepped}
 use Rattle.dshot_bank_spec.proofs.LaneLaws.{on, off}
 use Rattle.dshot_bank.specs.Views.{shown}
-use Rattle.dshot_bank.proofs.ReplyLaws.{part-is, two-fit, sending-is}
+use Rattle.dshot_bank.proofs.ReplyLaws.{two-fit, sending-is, shown-so}
 use Rattle.dshot_bank.proofs.DshotBank.sending.Statement.{statement}
 use Rattle.dshot_bank.proofs.DshotBank.sending.Tie as tie
 
@@ -70,11 +68,8 @@ part-result-end-3 c =
 
 returns-3 : tie.Need-returns-3
 returns-3 c =
-    let a = c .before .before .before .before .before .before .before .before .args in
-    part-is 16 (a .motor) (a .second .now)
-    ∙ ap (λ (l : List ℕ). take 16 (drop (16 * a .motor) l)) (on _ _ (c .before .if3 .taken) refl)
-    ∙ ap (λ (x : Stepped). shown (x .answer))
-    (sending-is 4 _ _ (sym (c .before .before .before .before .before .buffers-fit .ensures) ∙ not-false _ (c .before .before .before .before .if1 .left)) (lt-ltb _ _ (c .before .before .before .if2 .left)))
+    let d = c .before .before .before in
+    shown-so 4 _ _ (on _ _ (c .before .if3 .taken) refl) (sym (d .before .before .buffers-fit .ensures) ∙ not-false _ (d .before .if1 .left)) (lt-ltb _ _ (d .if2 .left))
 
 mul-result-2 : tie.Need-mul-result-2
 mul-result-2 c = search needs
@@ -94,11 +89,8 @@ part-result-end-4 c =
 
 returns-4 : tie.Need-returns-4
 returns-4 c =
-    let a = c .before .before .before .before .before .before .before .before .args in
-    part-is 16 (a .motor) (a .first .now)
-    ∙ ap (λ (l : List ℕ). take 16 (drop (16 * a .motor) l)) (off _ _ (c .before .if3 .left) refl)
-    ∙ ap (λ (x : Stepped). shown (x .answer))
-    (sending-is 4 _ _ (sym (c .before .before .before .before .before .buffers-fit .ensures) ∙ not-false _ (c .before .before .before .before .if1 .left)) (lt-ltb _ _ (c .before .before .before .if2 .left)))
+    let d = c .before .before .before in
+    shown-so 4 _ _ (off _ _ (c .before .if3 .left) refl) (sym (d .before .before .buffers-fit .ensures) ∙ not-false _ (d .before .if1 .left)) (lt-ltb _ _ (d .if2 .left))
 
 pub sending-spec : {M : Type 1} → statement M
 sending-spec =

@@ -32,7 +32,7 @@ returns c =
     let s : State = stateOf (a .self) b in
     let acted = act 4 s (service-call (a .now-ms) (a .taken) (a .present) (a .masks) (a .captures .now)) in
     let misfit = sym (c .before .before .lengths-fit .ensures) ∙ not-true _ (c .before .if1 .taken) in
-    (sym (ap (λ (t : Bool). refuseOr s (lengthRefusal t 0) acted) misfit), just (c .none .result) (replicate 4 0) [] (refused wrongLength) (c .none .ensures .1) refl refl)
+    (sym (ap (λ (t : Bool). refuseOr s (lengthRefusal t 0) acted) misfit), just (c .none .result) (replicate 4 0) [] (refused wrongLength) (c .none .ensures .2) refl refl)
 
 service-lanes-requires : tie.Need-service-lanes-requires
 service-lanes-requires c κs = three-fit _ _ _ (sym (c .before .before .before .lengths-fit .ensures) ∙ not-false _ (c .before .before .if1 .left))

@@ -33,7 +33,7 @@ returns c =
     let fault = sym (ap (λ (q : Core). q .frame .faulted) cleared) ∙ c .before .before .if1 .taken in
     subst (λ (s : Spec.Served). Serves (c .served .result) b s) (on _ _ fault refl)
     (c .served .ensures b (skipped Spec.faulted [] (clearRequestSent k))
-    (record { event = refl; orders = c .before .none .ensures .1; duties = refl; whole = whole-none; core = cleared }))
+    (record { event = refl; orders = c .before .none .ensures .2; duties = refl; whole = whole-none; core = cleared }))
 
 expired-requires : tie.Need-expired-requires
 expired-requires c κs = search needs

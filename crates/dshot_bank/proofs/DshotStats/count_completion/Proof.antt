@@ -1,84 +1,104 @@
--- `dshot_bank::DshotStats::count_completion` meets its contract: before each turn of the loop the lanes so far have their counts, and the motor's is one more.
+-- `dshot_bank::DshotStats::count_completion` meets its contract.
 -- Assumes nothing.
-use mathlib.Core.Path.{_∙_, refl, ap}
-use Prim.Native.Nat.{ℕ, _-_}
+use mathlib.Core.Path.{_≡_, _∙_, sym, ap}
+use mathlib.Core.Logic.{⊎-elim}
+use Prim.Native.Nat.{ℕ}
 use mathlib.Core.List.{List}
-use lib.Dec.{eqb}
 use lib.ListN.{getD, set}
-use Rattle.dshot_reply_spec.specs.Answer.{pick}
-use Rattle.dshot_spec.proofs.Tabulated.{Filled, filled-none, filled-more, filled-all}
+use Rattle.dshot_bank_spec.specs.Interrupt.{countCompletion}
 use Rattle.dshot_bank_spec.specs.Replies.{wrappingAdd}
 use Rattle.dshot_bank_spec.specs.With.{withLaneCompletions}
-use Rattle.dshot_bank.specs.States.{statsOf}
-use Rattle.dshot_bank.proofs.InterruptLaws.{set-by-place}
+use Rattle.dshot_bank.specs.declared.DshotMotor.{DshotMotor}
+use Rattle.dshot_bank.specs.declared.DshotMotor.the-variants.{Motor1, Motor2, Motor3, Motor4}
+use Rattle.dshot_bank.specs.declared.DshotStats.{DshotStats}
+use Rattle.dshot_bank.specs.States.{motorOf, statsOf}
 use borrow.Author.Needs.{needs}
 use Rattle.dshot_bank.proofs.DshotStats.count_completion.Statement.{statement}
 use Rattle.dshot_bank.proofs.DshotStats.count_completion.Tie as tie
 
--- lane i's count
-abbrev count : List ℕ → ℕ → ℕ → ℕ
-count old done i = pick (eqb i done) (wrappingAdd (getD old i 0)) (getD old i 0)
+-- a motor's lane counted
+counted : (s : DshotStats) {m : DshotMotor} (n : DshotMotor) {r : ℕ} {l : List ℕ} → m ≡ n
+    → r ≡ wrappingAdd (getD (s .«lane_completions») (motorOf n) 0) → l ≡ set (s .«lane_completions») (motorOf n) r
+    → withLaneCompletions l (statsOf s) ≡ countCompletion (motorOf m) (statsOf s)
+counted s n e h k =
+    (λ j. withLaneCompletions (k j) (statsOf s)) ∙ (λ j. withLaneCompletions (set (s .«lane_completions») (motorOf n) (h j)) (statsOf s))
+    ∙ sym (ap (λ (q : DshotMotor). countCompletion (motorOf q) (statsOf s)) e)
 
-abbrev Inv-loop : tie.InvT-loop
-Inv-loop self old done counts₀ lane₀ counts lane = Filled 4 (count old done) counts₀ lane counts
+enum-told : tie.Need-enum-told
+enum-told c = search needs
 
-abbrev μ-loop : tie.MeasureT-loop
-μ-loop self old done counts₀ lane₀ counts lane = 4 - lane
+array-read-wrapping-add : tie.Need-array-read-wrapping-add
+array-read-wrapping-add c = search needs
 
-index-requires : tie.Need-index-requires Inv-loop μ-loop
-index-requires c κs = search needs
+wrapping-add-requires : tie.Need-wrapping-add-requires
+wrapping-add-requires c κs = search needs
 
-loop-holds : tie.Need-loop-holds Inv-loop μ-loop
-loop-holds c = filled-none refl
-
-mul-add-if : tie.Need-mul-add-if Inv-loop μ-loop
-mul-add-if c = search needs
-
-array-read-add-if : tie.Need-array-read-add-if Inv-loop μ-loop
-array-read-add-if c = search needs
-
-add-if-requires : tie.Need-add-if-requires Inv-loop μ-loop
-add-if-requires c κs = search needs
-
-mul-counts : tie.Need-mul-counts Inv-loop μ-loop
-mul-counts c = search needs
-
-array-write-counts : tie.Need-array-write-counts Inv-loop μ-loop
+array-write-counts : tie.Need-array-write-counts
 array-write-counts c = search needs
 
-add-lane : tie.Need-add-lane Inv-loop μ-loop
-add-lane c = search needs
+enum-told-2 : tie.Need-enum-told-2
+enum-told-2 c = search needs
 
-loop-less : tie.Need-loop-less Inv-loop μ-loop
-loop-less c = search needs
+array-read-wrapping-add-2 : tie.Need-array-read-wrapping-add-2
+array-read-wrapping-add-2 c = search needs
 
-loop-again : tie.Need-loop-again Inv-loop μ-loop
-loop-again c = filled-more (c .before .before .loop .inv) (c .before .loop-test .taken) (c .add-if .ensures)
+wrapping-add-requires-2 : tie.Need-wrapping-add-requires-2
+wrapping-add-requires-2 c κs = search needs
 
-returns : tie.Need-returns Inv-loop μ-loop
+array-write-counts-2 : tie.Need-array-write-counts-2
+array-write-counts-2 c = search needs
+
+enum-told-3 : tie.Need-enum-told-3
+enum-told-3 c = search needs
+
+array-read-wrapping-add-3 : tie.Need-array-read-wrapping-add-3
+array-read-wrapping-add-3 c = search needs
+
+wrapping-add-requires-3 : tie.Need-wrapping-add-requires-3
+wrapping-add-requires-3 c κs = search needs
+
+array-write-counts-3 : tie.Need-array-write-counts-3
+array-write-counts-3 c = search needs
+
+enum-told-4 : tie.Need-enum-told-4
+enum-told-4 c = search needs
+
+array-read-wrapping-add-4 : tie.Need-array-read-wrapping-add-4
+array-read-wrapping-add-4 c = search needs
+
+wrapping-add-requires-4 : tie.Need-wrapping-add-requires-4
+wrapping-add-requires-4 c κs = search needs
+
+array-write-counts-4 : tie.Need-array-write-counts-4
+array-write-counts-4 c = search needs
+
+returns : tie.Need-returns
 returns c =
-    let a = c .before .before .before .before .args in
-    let old = a .self .«lane_completions» in
-    let e =
-    filled-all (c .before .loop .inv) (c .loop-test .left)
-    ∙ set-by-place 4 0 wrappingAdd old (c .before .before .index .result) (search needs)
-    ∙ ap (λ (m : ℕ). set old m (wrappingAdd (getD old m 0))) (c .before .before .index .ensures) in
-    ap (λ (l : List ℕ). withLaneCompletions l (statsOf (a .self))) e
+    let s = c .before .before .args .self in
+    ⊎-elim (λ p. counted s Motor1 (p .1 .given .1) (p .2 .ensures) (p .3))
+    (⊎-elim (λ p. counted s Motor2 (p .1 .given .1) (p .2 .ensures) (p .3))
+    (⊎-elim (λ p. counted s Motor3 (p .1 .given .1) (p .2 .ensures) (p .3))
+    (λ p. counted s Motor4 (p .1 .given .1) (p .2 .ensures) (p .3))))
+    (c .match .came)
 
 pub count-completion-spec : {M : Type 1} → statement M
 count-completion-spec =
     tie.close
     (tie.spec
-    Inv-loop
-    μ-loop
-    index-requires
-    loop-holds
-    mul-add-if
-    array-read-add-if
-    add-if-requires
-    mul-counts
+    enum-told
+    array-read-wrapping-add
+    wrapping-add-requires
     array-write-counts
-    add-lane
-    loop-less
-    loop-again
+    enum-told-2
+    array-read-wrapping-add-2
+    wrapping-add-requires-2
+    array-write-counts-2
+    enum-told-3
+    array-read-wrapping-add-3
+    wrapping-add-requires-3
+    array-write-counts-3
+    enum-told-4
+    array-read-wrapping-add-4
+    wrapping-add-requires-4
+    array-write-counts-4
     returns)

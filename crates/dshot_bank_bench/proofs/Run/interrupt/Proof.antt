@@ -22,7 +22,7 @@ add-duties-requires c κs = search needs
 
 returns : tie.Need-returns
 returns c =
-    let d = c .before .before .before .before .before in
+    let d = c .before .before .before .before in
     let t = d .on-dma-interrupt in
     let a = d .before .args in
     let z : List ℕ = replicate 4 0 in

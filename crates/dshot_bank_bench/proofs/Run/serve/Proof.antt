@@ -26,7 +26,7 @@ same-length-2 c = search needs
 
 returns : tie.Need-returns
 returns c =
-    let d = c .before .before .before .before .before .before .before .before .before .before in
+    let d = c .before .before .before .before .before .before .before .before .before in
     let t = d .service in
     let a = d .before .before .before .before .before .before .args in
     let z = t .result .«first_duties» in

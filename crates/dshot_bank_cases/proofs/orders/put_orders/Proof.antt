@@ -1,15 +1,14 @@
--- `dshot_bank_cases::orders::put_orders` is safe and ends: each place that it reads is in the list, and the places left fall.
+-- `dshot_bank_cases::orders::put_orders` is safe and ends: the places left fall.
 -- Assumes nothing.
-use Prim.Native.Nat.{_-_}
 use borrow.Author.Needs.{needs}
 use Rattle.dshot_bank_cases.proofs.orders.put_orders.Statement.{statement}
 use Rattle.dshot_bank_cases.proofs.orders.put_orders.Tie as tie
 
 abbrev Inv-loop : tie.InvT-loop
-Inv-loop out₀ at duties count list end₀ i₀ out end i = Unit {0}
+Inv-loop out₀ at duties left₀ end₀ places₀ out left end places = Unit {0}
 
 abbrev μ-loop : tie.MeasureT-loop
-μ-loop out₀ at duties count list end₀ i₀ out end i = 9 - i
+μ-loop out₀ at duties left₀ end₀ places₀ out left end places = places
 
 empty-requires : tie.Need-empty-requires Inv-loop μ-loop
 empty-requires c κs = search needs
@@ -20,17 +19,17 @@ returns c = search needs
 loop-holds : tie.Need-loop-holds Inv-loop μ-loop
 loop-holds c = search needs
 
-mul-put-order : tie.Need-mul-put-order Inv-loop μ-loop
-mul-put-order c = search needs
-
-array-copy-out-put-order : tie.Need-array-copy-out-put-order Inv-loop μ-loop
-array-copy-out-put-order c = search needs
+first-requires : tie.Need-first-requires Inv-loop μ-loop
+first-requires c κs = search needs
 
 put-order-requires : tie.Need-put-order-requires Inv-loop μ-loop
 put-order-requires c κs = search needs
 
-add-i : tie.Need-add-i Inv-loop μ-loop
-add-i c = search needs
+rest-requires : tie.Need-rest-requires Inv-loop μ-loop
+rest-requires c κs = search needs
+
+sub-places : tie.Need-sub-places Inv-loop μ-loop
+sub-places c = search needs
 
 loop-less : tie.Need-loop-less Inv-loop μ-loop
 loop-less c = search needs
@@ -50,10 +49,10 @@ put-orders-spec =
     empty-requires
     returns
     loop-holds
-    mul-put-order
-    array-copy-out-put-order
+    first-requires
     put-order-requires
-    add-i
+    rest-requires
+    sub-places
     loop-less
     loop-again
     returns-2)
