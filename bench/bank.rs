@@ -48,14 +48,7 @@ pub fn original_cycles(cycles: &Cycles, left: &mut Left) {
         started: 0,
         sum: &sum,
     };
-    let [arr, zero_high, one_high, reply_sample_arr] = cycles.timing;
-    let timing = DshotTiming {
-        arr,
-        zero_high,
-        one_high,
-        reply_sample_arr,
-    };
-    let mut bank = DshotBank::from_lanes(lanes, spares.each_mut(), timing);
+    let mut bank = DshotBank::from_lanes(lanes, spares.each_mut(), timing(cycles.timing));
     // Refused where the lanes do not receive.
     let _ = bank.enable_bidirectional();
     for (now_ms, throttles) in (0..).zip(&cycles.throttles) {
@@ -65,6 +58,21 @@ pub fn original_cycles(cycles: &Cycles, left: &mut Left) {
             bank.on_dma_interrupt(DshotMotor::ALL[interrupt % 4]);
         }
     }
+    left.counts = counts(&mut bank, sum.get());
+    drop(bank);
+    left.buffers = *unsafe { Box::from_raw(buffers) };
+}
+
+fn timing([arr, zero_high, one_high, reply_sample_arr]: [u16; 4]) -> DshotTiming {
+    DshotTiming {
+        arr,
+        zero_high,
+        one_high,
+        reply_sample_arr,
+    }
+}
+
+fn counts(bank: &mut DshotBank<Lanes>, sum: u32) -> [[u32; 4]; 6] {
     let (stats, replies) = (bank.stats(), bank.reply_stats());
     let speeds = bank.take_replies().map_or([0; 4], |read| {
         read.map(|reply| match reply {
@@ -72,7 +80,7 @@ pub fn original_cycles(cycles: &Cycles, left: &mut Left) {
             _ => 0,
         })
     });
-    left.counts = [
+    [
         stats.lane_completions,
         replies.valid,
         replies.invalid,
@@ -82,11 +90,9 @@ pub fn original_cycles(cycles: &Cycles, left: &mut Left) {
             stats.frames_started,
             stats.frames_completed,
             stats.dma_faults,
-            sum.get(),
+            sum,
         ],
-    ];
-    drop(bank);
-    left.buffers = *unsafe { Box::from_raw(buffers) };
+    ]
 }
 
 extern "C" {

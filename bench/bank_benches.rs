@@ -1,5 +1,5 @@
-//! The benches on the cycles of a bank. One interrupt is a quarter of what the second and the third
-//! differ by.
+//! The benches on the cycles of a bank. In a cycle the second has more than the third: four more
+//! interrupts, the lanes turned twice, and four absent windows that are decoded and counted.
 
 use crate::bank::{library_cycles, original_cycles, Cycles, Left};
 use crate::bank_inputs::cycles;

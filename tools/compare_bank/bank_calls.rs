@@ -8,7 +8,7 @@ use crate::bank::Bank;
 use crate::call::{Call, Service, Status, SLOTS};
 use crate::outcome::{counts, lane, replies, reply_counts};
 use crate::refusals::{self, LENGTH, MOTOR};
-use dshot_bank::{DshotInterruptEvent, DshotServiceEvent};
+use dshot_bank::{fallback_release_due, DshotInterruptEvent, DshotServiceEvent};
 
 impl Bank {
     pub fn answer(&mut self, call: &Call) -> Vec<u64> {
@@ -25,6 +25,9 @@ impl Bank {
             Call::RequestedValues => bank.requested_values().map(u64::from).to_vec(),
             Call::CommandPending => vec![bank.command_pending().into()],
             Call::ReplyStats => reply_counts(&bank.reply_stats()),
+            Call::FallbackReleaseDue { now, last } => {
+                vec![fallback_release_due(*now, *last).into()]
+            }
             _ => self.demand(call).into_iter().collect(),
         }
     }

@@ -48,6 +48,11 @@ pub enum Call {
     },
     SetStats([u32; 11]),
     SetReplyStats([u32; 12]),
+    /// It asks no bank.
+    FallbackReleaseDue {
+        now: u32,
+        last: u32,
+    },
 }
 
 /// The fields of a run of commands.
@@ -118,7 +123,7 @@ impl Status {
 }
 
 /// The source's name of each call, in the order of the codes.
-pub const NAMES: [&str; 21] = [
+pub const NAMES: [&str; 22] = [
     "from_lanes",
     "enable_bidirectional",
     "command_stop",
@@ -140,4 +145,5 @@ pub const NAMES: [&str; 21] = [
     "a slot is written",
     "the counts are set",
     "the counts of replies are set",
+    "fallback_release_due",
 ];

@@ -18,7 +18,7 @@ struct Found {
     differences: Differences,
 }
 
-/// How many lines differ.
+/// How many lines differ and cases are at zero, together.
 pub fn compare(program: &Path, calls: u64, folder: &Path) -> io::Result<u64> {
     let found = std::thread::scope(|scope| {
         let start = |thread| {
@@ -37,10 +37,10 @@ pub fn compare(program: &Path, calls: u64, folder: &Path) -> io::Result<u64> {
         "{} lists, {} calls, the longest list has {} bytes",
         found.lists, found.calls, found.longest
     );
-    found.seen.report();
+    let at_zero = found.seen.report();
     found.differences.report(folder)?;
     println!("{} lines differ", found.differences.lines);
-    Ok(found.differences.lines)
+    Ok(found.differences.lines + at_zero)
 }
 
 /// Every second list, until there are enough calls.

@@ -1,4 +1,4 @@
-//! Cases of demands, requests, looks, views and writes.
+//! Cases of demands, requests, looks, views, writes and releases.
 
 use crate::call::{Call, Run};
 use crate::coverage::Case;
@@ -98,6 +98,11 @@ pub const CALLS: &[Case] = &[
         written(s) == Some(true)
     }),
     ("slot written of a spare", |s| written(s) == Some(false)),
+    ("release due", |s| release(s, 1, |_, _| true)),
+    ("release not due", |s| release(s, 0, |_, _| true)),
+    ("release due across the wrap", |s| {
+        release(s, 1, |now, last| now < last)
+    }),
 ];
 
 fn new_bank(step: &Step) -> bool {
@@ -139,5 +144,12 @@ fn written(step: &Step) -> Option<bool> {
     match step.call {
         Call::Write { buffer, slot, .. } => Some(step.outcome.marks[slot / 16] == (*buffer == 1)),
         _ => None,
+    }
+}
+
+fn release(step: &Step, due: u64, like: fn(u32, u32) -> bool) -> bool {
+    match step.call {
+        Call::FallbackReleaseDue { now, last } => step.outcome.answer == [due] && like(*now, *last),
+        _ => false,
     }
 }

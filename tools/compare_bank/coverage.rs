@@ -14,7 +14,10 @@ pub type Case = (&'static str, fn(&Step) -> bool);
 
 /// The groups of cases under their titles.
 const GROUPS: [(&str, &[Case]); 4] = [
-    ("demands, requests, looks, views and writes", CALLS),
+    (
+        "demands, requests, looks, views, writes and releases",
+        CALLS,
+    ),
     ("services", SERVICES),
     ("interrupts", INTERRUPTS),
     ("counts that wrap, or stop at their largest value", COUNTS),
@@ -103,7 +106,8 @@ impl Coverage {
         groups
     }
 
-    pub fn report(&self) {
+    /// Prints the counts, and answers how many are 0.
+    pub fn report(&self) -> u64 {
         let mut at_zero = 0;
         for (title, counts) in self.groups() {
             println!("{title}:");
@@ -113,6 +117,7 @@ impl Coverage {
             }
         }
         println!("cases at zero: {at_zero}");
+        at_zero
     }
 }
 

@@ -91,7 +91,7 @@ fn usage() -> ExitCode {
 
 fn compared(program: &Path, calls: u64, folder: &Path) -> ExitCode {
     match compare::compare(program, calls, folder) {
-        Ok(differ) => ExitCode::from(u8::from(differ > 0)),
+        Ok(wrong) => ExitCode::from(u8::from(wrong > 0)),
         Err(error) => {
             eprintln!("the program could not be run: {error}");
             ExitCode::from(2)

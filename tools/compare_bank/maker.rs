@@ -4,7 +4,7 @@
 use crate::call::{Call, Service, SLOTS};
 use crate::clock::Clock;
 use crate::random::Random;
-use crate::random_demands::{above, counts, look, motor, special, throttles, view, write};
+use crate::random_demands::{above, counts, look, motor, release, special, throttles, view, write};
 use crate::random_interrupts::{again, any, any_status, completion, failed, turn_refused};
 use crate::random_services::{in_time, refused, service, too_late, unasked, wrong_length};
 use crate::settings::Settings;
@@ -136,7 +136,7 @@ impl Maker {
     /// Calls beside the frame.
     fn aside(&mut self, fields: &Fields) {
         let random = &mut self.random;
-        let call = match random.below(64) {
+        let call = match random.below(66) {
             0..=11 => return self.throttle(fields),
             12..=18 => return self.run(fields),
             19..=22 => Call::CommandStop,
@@ -154,6 +154,7 @@ impl Maker {
                 status: any_status(random),
             },
             62 => Call::EnableBidirectional(random.one_in(2)),
+            63 | 64 => release(random),
             _ if self.settings.full_counts => return self.set_counts(),
             _ => look(random),
         };

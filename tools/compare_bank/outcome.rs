@@ -3,6 +3,7 @@
 use crate::original::reply;
 use crate::write_call::joined;
 use dshot_bank::{DshotMotor, DshotReplies, DshotReplyStats, DshotStats, Fields};
+use ferrowasp_output::dshot::DshotTiming;
 
 pub struct Outcome {
     pub answer: Vec<u64>,
@@ -25,7 +26,8 @@ impl Outcome {
 }
 
 fn field_numbers(fields: &Fields) -> Vec<u64> {
-    let mut numbers = fields.requested_values.map(u64::from).to_vec();
+    let mut numbers = timing(fields.timing).to_vec();
+    numbers.extend(fields.requested_values.map(u64::from));
     numbers.push(fields.lease_started_ms);
     numbers.extend(match fields.lease_duration_ms {
         Some(lease) => vec![1, lease.into()],
@@ -54,6 +56,16 @@ fn field_numbers(fields: &Fields) -> Vec<u64> {
     numbers.extend(counts(&fields.stats));
     numbers.extend(reply_counts(&fields.reply_stats));
     numbers
+}
+
+fn timing(timing: DshotTiming) -> [u64; 4] {
+    [
+        timing.arr,
+        timing.zero_high,
+        timing.one_high,
+        timing.reply_sample_arr,
+    ]
+    .map(u64::from)
 }
 
 /// 0 for none, else one more than the lane.

@@ -1,9 +1,10 @@
 // What follows is not the source's: tools/compare_bank/run appends it, since a bank's fields are
 // private to this module.
 
-/// Every field of a bank but its lanes, spares and timing.
+/// Every field of a bank but its lanes and spares.
 #[derive(Clone, Copy)]
 pub struct Fields {
+    pub timing: DshotTiming,
     pub requested_values: [u16; 4],
     pub telemetry_request: Option<DshotMotor>,
     pub telemetry_request_sent: Option<DshotMotor>,
@@ -30,13 +31,14 @@ where
     pub fn fields(&self) -> Fields {
         #[rustfmt::skip]
         let Self {
-            lanes: _, spares: _, timing: _,
+            lanes: _, spares: _, timing,
             requested_values, telemetry_request, telemetry_request_sent,
             lease_started_ms, lease_duration_ms, frame_started_ms,
             completion_mask, busy, faulted, stats, command_sequence,
             bidirectional, receiving, replies_waiting, replies, reply_stats,
         } = *self;
         Fields {
+            timing,
             requested_values,
             telemetry_request,
             telemetry_request_sent,

@@ -1,4 +1,4 @@
-//! Random demands, runs of commands, lanes and counts.
+//! Random demands, runs of commands, lanes, counts and releases.
 
 use crate::call::{Call, Run, SLOTS};
 use crate::random::Random;
@@ -125,5 +125,24 @@ pub fn write(random: &mut Random) -> Call {
         buffer: random.below(2),
         slot: random.below(SLOTS),
         value: random.word() as u16,
+    }
+}
+
+/// Times that mostly differ by little, many of them on both sides of the wrap.
+pub fn release(random: &mut Random) -> Call {
+    let near = random.below(4) as u32;
+    let last = match random.below(3) {
+        0 => u32::MAX - near,
+        1 => near,
+        _ => random.word(),
+    };
+    let ticks = match random.below(8) {
+        0 => random.word(),
+        1 => (1 + random.below(3) as u32).wrapping_neg(),
+        _ => random.below(4) as u32,
+    };
+    Call::FallbackReleaseDue {
+        now: last.wrapping_add(ticks),
+        last,
     }
 }

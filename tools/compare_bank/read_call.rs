@@ -124,6 +124,10 @@ fn other(code: u8, words: &mut Words) -> Option<Call> {
         },
         19 => Call::SetStats(words.numbers()?),
         20 => Call::SetReplyStats(words.numbers()?),
+        21 => Call::FallbackReleaseDue {
+            now: words.number()?,
+            last: words.number()?,
+        },
         _ => return None,
     })
 }

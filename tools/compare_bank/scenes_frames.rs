@@ -1,4 +1,4 @@
-//! Scenes of frames and leases.
+//! Scenes of frames, leases and releases.
 
 use crate::call::{Call, Service, Status};
 use crate::script::{Script, BUSY, EXPIRED, FAULTED, SPURIOUS, STARTED};
@@ -9,6 +9,7 @@ pub fn scenes(script: &mut Script) {
     expired(script);
     turned_late(script);
     writes(script);
+    releases(script);
 }
 
 /// Four different throttles, a telemetry request, and four different replies at different places
@@ -81,4 +82,16 @@ fn writes(script: &mut Script) {
     script.write(0, 5, 77);
     script.write(1, 31, 9);
     script.view(0, 1, [64; 2]);
+}
+
+/// A release is due two ticks after the last one, also across the wrap, whatever the bank is like.
+fn releases(script: &mut Script) {
+    script.bidirectional();
+    script.throttles([1, 2, 3, 4], 100, 9);
+    script.release(false, 101, 100);
+    script.service(102, STARTED);
+    script.release(true, 102, 100);
+    script.release(true, 103, 100);
+    script.release(false, 0, u32::MAX);
+    script.release(true, 1, u32::MAX);
 }

@@ -116,6 +116,11 @@ impl Script {
         });
     }
 
+    /// Whether a release is due.
+    pub fn release(&mut self, due: bool, now: u32, last: u32) {
+        self.expect(due.into(), Call::FallbackReleaseDue { now, last });
+    }
+
     /// Whether a run is pending.
     pub fn pending(&mut self, pending: bool) {
         self.expect(pending.into(), Call::CommandPending);

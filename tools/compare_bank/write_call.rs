@@ -50,6 +50,7 @@ fn numbers(call: &Call) -> Vec<u64> {
         } => with(18, [*buffer as u64, *slot as u64, u64::from(*value)]),
         Call::SetStats(counts) => with(19, counts.map(u64::from)),
         Call::SetReplyStats(counts) => with(20, counts.map(u64::from)),
+        Call::FallbackReleaseDue { now, last } => with(21, [*now, *last].map(u64::from)),
     }
 }
 
