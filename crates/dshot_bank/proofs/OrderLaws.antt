@@ -12,11 +12,11 @@ use Rattle.dshot_bank_spec.specs.Order.{exchange-buffer, pause-and-clear, latch
 use Rattle.dshot_bank_spec.specs.Order as Spec
 use Rattle.dshot_bank_spec.specs.Calls.{Answer}
 use Rattle.dshot_bank.specs.declared.DshotMotor.{DshotMotor}
-use Rattle.dshot_bank.specs.declared.DshotMotor.the-variants.{Motor1, Motor2, Motor3, Motor4}
 use Rattle.dshot_bank.specs.declared.orders.OrderKind.{OrderKind}
 use Rattle.dshot_bank.specs.declared.orders.OrderKind.the-variants.{None, ExchangeBuffer, StartDma, StartFrame, StopFrame, ForceOutputsLow, PauseAndClear, BeginReceive, EndReceive}
 use Rattle.dshot_bank.specs.declared.orders.Orders.{Orders}
 use Rattle.dshot_bank.specs.States.{motorOf}
+use Rattle.dshot_bank.proofs.StepLaws.{motor-small}
 use Rattle.dshot_bank.specs.Orders.{kindNumber, code, codesOf, above, held, dutiesIn, kindAt, orderOf, ordersFrom, ordersOf, ordersIn, Just, Whole}
 
 pub kind-small : (k : OrderKind) → kindNumber k ≤ 8
@@ -33,7 +33,7 @@ kind-small EndReceive = omega arith
 -- ---- lists put together
 
 -- one list behind another
-pub codes-append : (l m : List Spec.Order) → codesOf (l ++ m) ≡ codesOf l + above (length l) (codesOf m)
+codes-append : (l m : List Spec.Order) → codesOf (l ++ m) ≡ codesOf l + above (length l) (codesOf m)
 codes-append [] m = omega arith
 codes-append (x ∷ l) m = let e = codes-append l m in omega arith
 
@@ -92,12 +92,18 @@ back o d l p q w = (λ j. ordersOf (p j) (q j)) ∙ w
 pub just : (o : Orders) (d : List ℕ) (l : List Spec.Order) (a : Answer) → o ≡ held l → d ≡ dutiesIn l → ordersIn a ≡ l → Just o d a
 just o d l a p q e = record { number = p ∙ ap held (sym e); duties = q ∙ ap dutiesIn (sym e) }
 
--- the first order of an interrupt
+-- an order of a lane comes back: its number is eight times q, and the lane
+own-lane : (d : List ℕ) (q m : ℕ) (x : Spec.Order) → q ≤ 8 → m < 8 → code x ≡ q * 8 + m → orderOf d (kindAt q) m ≡ x ∷ [] → Own d x
+own-lane d q m x hq hm e o =
+    let kind : code x / 8 ≡ q = ap (λ (n : ℕ). n / 8) e ∙ digits-div q hm in
+    let lane : code x % 8 ≡ m = ap (λ (n : ℕ). n % 8) e ∙ digits-mod q hm in
+    record { small = omega arith; order = (λ j. orderOf d (kindAt (kind j)) (lane j)) ∙ o }
+
 pub own-paused : (d : List ℕ) (m : DshotMotor) → Own d (pause-and-clear (motorOf m))
-own-paused d Motor1 = record { small = omega arith; order = refl }
-own-paused d Motor2 = record { small = omega arith; order = refl }
-own-paused d Motor3 = record { small = omega arith; order = refl }
-own-paused d Motor4 = record { small = omega arith; order = refl }
+own-paused d m = own-lane d 6 (motorOf m) (pause-and-clear (motorOf m)) (omega arith) (omega (arith, motor-small m refl)) refl refl
+
+own-exchange : (d : List ℕ) (m : ℕ) → m < 8 → Own d (exchange-buffer m)
+own-exchange d m h = own-lane d 1 m (exchange-buffer m) (omega arith) h refl refl
 
 -- ---- the lists of orders of the calls
 
@@ -129,10 +135,6 @@ whole-latched = whole (latchOrders 4) (kept-latched _)
 pub whole-started : (d : List ℕ) → Whole (startOrders 4 d)
 unfolding held ordersOf tabulate
 whole-started d = refl
-
--- a lane's order to exchange comes back
-own-exchange : (d : List ℕ) (m : ℕ) → m < 8 → Own d (exchange-buffer m)
-own-exchange d m h = record { small = omega arith; order = λ j. orderOf d (kindAt (digits-div 1 h j)) (digits-mod 1 h j) }
 
 -- the exchanges up to a lane, and the orders of the fault
 pub whole-refused : (k : ℕ) → k < 4 → Whole (refusedOrders 4 k)
