@@ -76,6 +76,9 @@ wrongPacketChecksum = 15
 abbrev pub periodOutOfRange : ℕ
 periodOutOfRange = 16
 
+abbrev pub notACapture : ℕ
+notACapture = 17
+
 -- refused, as a damaged capture is: with one of 7 to 10
 pub record Rejected {A : Type 0} (a : Answer A) : Type 0 where
   pub number : ℕ

@@ -1,0 +1,11 @@
+pub mod AnswerLaws
+pub mod NumberLaws
+pub mod ReadBack
+pub mod OneFile
+pub mod Theorems
+pub mod ReadLaws
+pub mod WriteLaws
+pub mod SampleLaws
+pub mod HeadLaws
+pub mod CallLaws
+pub mod Examples

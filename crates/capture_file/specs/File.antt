@@ -1,0 +1,136 @@
+-- A capture file, added by document 01: how many samples, the pin mask, EDT and then the samples, each a number in groups of seven bits.
+-- Assumes nothing.
+use Prim.Native.Nat.{ℕ, zero, suc, _+_, _-_, _*_, _/_, _%_, _≤_}
+use mathlib.Core.Bool.{Bool}
+use mathlib.Core.List.{List, [], _∷_, _++_}
+use lib.Dec.{eqb, ltb}
+use lib.ListN.{length, drop}
+use Rattle.dshot_reply_spec.specs.Answer.{Answer, given, refused, then, pick, notACapture, wrongLength}
+
+-- the most samples that a file holds, and the most bytes that it has then
+abbrev pub captureSamples : ℕ
+captureSamples = 4096
+
+abbrev pub captureFileBytes : ℕ
+captureFileBytes = 12294
+
+-- ---- a number
+
+-- a number up to 65535 in one, two or three groups of seven bits, lowest first, 128 added to all groups but the last
+unfoldable pub groups : ℕ → List ℕ
+groups n =
+    pick (ltb n 128) (n ∷ [])
+    (pick (ltb n 16384) ((128 + n % 128) ∷ n / 128 ∷ [])
+    ((128 + n % 128) ∷ (128 + n / 128 % 128) ∷ n / 16384 ∷ []))
+
+-- a number at the head of bytes, and the bytes after it
+pub record Headed : Type 0 where
+  pub number : ℕ
+  pub rest : List ℕ
+
+abbrev pub headed : ℕ → List ℕ → Headed
+headed n s = record { number = n; rest = s }
+
+-- a byte below 128 is a number; any other is the lowest seven bits of one, and a number that is not 0 follows, which makes the form the shortest
+abbrev pub readGroups : List ℕ → Answer Headed
+readGroups [] = refused notACapture
+readGroups (b ∷ s) =
+    pick (ltb b 128) (given (headed b s))
+    (then (readGroups s) (λ r.
+    pick (eqb (r .number) 0) (refused notACapture) (given (headed (b - 128 + 128 * r .number) (r .rest)))))
+
+-- the same up to 65535, so in three groups at most
+unfoldable pub readNumber : List ℕ → Answer Headed
+readNumber bytes = then (readGroups bytes) (λ r. pick (ltb 65535 (r .number)) (refused notACapture) (given r))
+
+-- n numbers, and nothing after them
+abbrev pub readAll : ℕ → List ℕ → Answer (List ℕ)
+readAll zero [] = given []
+readAll zero (b ∷ s) = refused notACapture
+readAll (suc n) s = then (readNumber s) (λ r. then (readAll n (r .rest)) (λ xs. given (r .number ∷ xs)))
+
+-- ---- a file
+
+pub record Capture : Type 0 where
+  pub mask : ℕ
+  pub edt : Bool
+  pub samples : List ℕ
+
+abbrev pub capture : ℕ → Bool → List ℕ → Capture
+capture m e xs = record { mask = m; edt = e; samples = xs }
+
+-- each number of a list is at most n
+abbrev pub UpTo : ℕ → List ℕ → Type 0
+UpTo n [] = Unit {0}
+UpTo n (x ∷ xs) = (x ≤ n) × UpTo n xs
+
+-- a capture that a file holds
+pub record Valid (c : Capture) : Type 0 where
+  pub pins : c .mask ≤ 65535
+  pub count : length (c .samples) ≤ captureSamples
+  pub each : UpTo 65535 (c .samples)
+
+-- the groups of each number of a list
+abbrev pub allGroups : List ℕ → List ℕ
+allGroups [] = []
+allGroups (x ∷ xs) = groups x ++ allGroups xs
+
+-- the bytes of a file
+unfoldable pub fileOf : Capture → List ℕ
+fileOf c = groups (length (c .samples)) ++ (groups (c .mask) ++ (groups (pick (c .edt) 1 0) ++ allGroups (c .samples)))
+
+-- what stands before the samples of a file, and the bytes of these
+pub record Head : Type 0 where
+  pub count : ℕ
+  pub mask : ℕ
+  pub edt : Bool
+  pub rest : List ℕ
+
+unfoldable pub readHead : List ℕ → Answer Head
+readHead bytes =
+    then (readNumber bytes) (λ count.
+    then (readNumber (count .rest)) (λ mask.
+    then (readNumber (mask .rest)) (λ edt.
+    pick (ltb captureSamples (count .number)) (refused notACapture)
+    (pick (ltb 1 (edt .number)) (refused notACapture)
+    (given (record { count = count .number; mask = mask .number; edt = eqb (edt .number) 1; rest = edt .rest }))))))
+
+-- the capture that a file holds; bytes that are no file are refused
+unfoldable pub readFile : List ℕ → Answer Capture
+readFile bytes =
+    then (readHead bytes) (λ h.
+    then (readAll (h .count) (h .rest)) (λ xs.
+    given (capture (h .mask) (h .edt) xs)))
+
+-- ---- the two calls
+
+-- a buffer whose first slots hold a list, and the others what they held
+abbrev pub front : List ℕ → List ℕ → List ℕ
+front out xs = xs ++ drop (length xs) out
+
+-- slots with the samples of a capture
+abbrev pub slotsOf : List ℕ → Capture → List ℕ
+slotsOf slots c = front slots (c .samples)
+
+-- a file read into slots, of which there are as many as a file has samples at most
+unfoldable pub readInto : List ℕ → List ℕ → Answer Capture
+readInto bytes slots = pick (eqb (length slots) captureSamples) (readFile bytes) (refused wrongLength)
+
+-- the bytes of a capture, for a buffer that has room for every file
+unfoldable pub writtenInto : Capture → List ℕ → Answer (List ℕ)
+writtenInto c out =
+    pick (ltb captureSamples (length (c .samples))) (refused wrongLength)
+    (pick (eqb (length out) captureFileBytes) (given (fileOf c)) (refused wrongLength))
+
+-- what the reader tells of a capture beside its samples
+pub record Told : Type 0 where
+  pub count : ℕ
+  pub mask : ℕ
+  pub edt : Bool
+
+abbrev pub told : Capture → Answer Told
+told c = given (record { count = length (c .samples); mask = c .mask; edt = c .edt })
+
+-- what the writer tells of a file
+abbrev pub byteCount : List ℕ → Answer ℕ
+byteCount bytes = given (length bytes)

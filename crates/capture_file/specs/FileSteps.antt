@@ -1,0 +1,31 @@
+-- What the steps of reading and writing a capture file do, for the contracts of private functions. No public promise cites these.
+-- Assumes nothing.
+use Prim.Native.Nat.{ℕ, _+_}
+use mathlib.Core.Bool.{Bool, true, false}
+use mathlib.Core.List.{List, _++_}
+use lib.ListN.{length, take, drop}
+use Rattle.dshot_reply_spec.specs.Answer.{Answer, given, refused, notACapture}
+use Rattle.capture_file.specs.File.{Headed, headed, Head}
+use Rattle.capture_file.specs.declared.number.NumberRead.{NumberRead}
+use Rattle.capture_file.specs.declared.number.NumberRead.the-variants.{Number, NotANumber}
+use Rattle.capture_file.specs.declared.file.HeadRead.{HeadRead}
+use Rattle.capture_file.specs.declared.file.HeadRead.the-variants as Start
+
+-- a buffer with a list put over its elements from a place on
+abbrev pub put : ℕ → List ℕ → List ℕ → List ℕ
+put at xs out = take at out ++ xs ++ drop (at + length xs) out
+
+-- a number that was read in bytes, with the bytes from the place after it on
+abbrev pub numberAnswer : List ℕ → NumberRead → Answer Headed
+numberAnswer bytes (Number n next) = given (headed n (drop next bytes))
+numberAnswer bytes NotANumber = refused notACapture
+
+-- what was read before the samples, with the bytes from the place after it on
+abbrev pub headAnswer : List ℕ → HeadRead → Answer Head
+headAnswer bytes (Start.Head count mask edt next) = given (record { count = count; mask = mask; edt = edt; rest = drop next bytes })
+headAnswer bytes Start.NotACapture = refused notACapture
+
+-- whether something was given
+abbrev pub isGiven : {A : Type 0} → Answer A → Bool
+isGiven (given a) = true
+isGiven (refused n) = false
