@@ -9,3 +9,8 @@ pub mod SampleLaws
 pub mod HeadLaws
 pub mod CallLaws
 pub mod Examples
+pub mod DigitLaws
+pub mod LineLaws
+pub mod DigitsBack
+pub mod Listing
+pub mod FixedLines

@@ -1,4 +1,7 @@
-// The capture file, added: its numbers in groups of seven bits, and how a file is read and written.
+// Captures at the bench, added: the capture file, and the line that is printed for a capture.
 
+// Files, read and written.
 pub mod file;
+// The line of a capture.
+pub mod line;
 mod number;

@@ -1,16 +1,18 @@
 // A reply as the three numbers that a list stores.
 
-use crate::widths::wide8;
+use crate::widths::wide16;
 use crate::widths::wide32;
 use dshot_reply::DshotReply;
 use dshot_reply::DshotReplyError;
 use dshot_reply::ReplyRead;
+use dshot_reply::kind;
 ghost use mathlib.Core.Path.{_≡_};
 ghost use mathlib.Core.Bool.{_&&_};
 ghost use lib.Dec.{eqb};
 ghost use Rattle.dshot_reply_spec.specs.Answer.{refusalNumber};
+ghost use Rattle.dshot_reply_spec.specs.Kind.{kindNumber, readingNumber};
 ghost use Rattle.dshot_reply.specs.Answers.{errorNumber, reading, replyAnswer};
-ghost use Rattle.case_text.specs.Answers.{debugKind, kindOf, numberOf, ofGiven};
+ghost use Rattle.case_text.specs.Answers.{ofGiven};
 
 // The number of a refusal, and zeros; or 0, the kind of a reading (0 where the call gives none), and the value.
 pub struct Answer {
@@ -59,34 +61,17 @@ pub fn refused_by(error: DshotReplyError) -> Answer
     refused(wide32(dshot_reply::error_number(error)))
 }
 
-// The library has channels 1 to 3. Any other gets a kind that no list has.
-fn debug_kind(channel: u8) -> u64
-    ensures { λ r. ⌜ r ≡ debugKind channel ⌝ }
-{
-    match channel {
-        1 => 4,
-        2 => 5,
-        3 => 6,
-        _ => u64::MAX,
-    }
-}
-
 fn of_reply(reply: DshotReply) -> Answer
-    ensures { λ r. ⌜ (r .refusal ≡ 0) × (r .kind ≡ kindOf (reading reply)) × (r .number ≡ numberOf (reading reply)) ⌝ }
+    ensures { λ r. ⌜ (r .refusal ≡ 0) × (r .kind ≡ kindNumber (reading reply)) × (r .number ≡ readingNumber (reading reply)) ⌝ }
 {
-    match reply {
-        DshotReply::Erpm { erpm_div100 } => answered(0, wide32(erpm_div100)),
-        DshotReply::Temperature { celsius } => answered(1, wide8(celsius)),
-        DshotReply::Voltage { quarter_volts } => answered(2, wide8(quarter_volts)),
-        DshotReply::Current { amps } => answered(3, wide8(amps)),
-        DshotReply::Debug { channel, value } => answered(debug_kind(channel), wide8(value)),
-        DshotReply::StateEvent { value } => answered(7, wide8(value)),
-        DshotReply::ExtendedTelemetryEnabled => answered(8, 0),
-    }
+    answered(
+        wide16(kind::kind_number(reply)),
+        wide32(kind::reading_number(reply)),
+    )
 }
 
 pub fn of_read(answer: ReplyRead) -> Answer
-    ensures { λ r. ⌜ (r .refusal ≡ refusalNumber (replyAnswer answer)) × (r .kind ≡ ofGiven kindOf (replyAnswer answer)) × (r .number ≡ ofGiven numberOf (replyAnswer answer)) ⌝ }
+    ensures { λ r. ⌜ (r .refusal ≡ refusalNumber (replyAnswer answer)) × (r .kind ≡ ofGiven kindNumber (replyAnswer answer)) × (r .number ≡ ofGiven readingNumber (replyAnswer answer)) ⌝ }
 {
     match answer {
         ReplyRead::Reply(reply) => of_reply(reply),

@@ -26,7 +26,8 @@ ghost use Rattle.dshot_reply_spec.specs.Reading.{wordReply, sampledReply};
 ghost use Rattle.dshot_reply.specs.Answers.{transitionsAnswer, decodedAnswer, reading, replyAnswer, errorNumber};
 ghost use Rattle.dshot_reply.specs.Steps.{Encodes, Decodes, sameFor, closed};
 
-// The simulated ESC, which is not in the source.
+// Not in the source: a reply as two numbers, and the simulated ESC.
+pub mod kind;
 pub mod simulate;
 
 // Bits in a reply, the start edge included.

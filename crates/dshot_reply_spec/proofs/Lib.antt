@@ -19,4 +19,5 @@ pub mod Simulated
 pub mod PeriodLaws
 pub mod Period
 pub mod ZeroPeriod
+pub mod ReadingKinds
 pub mod Documents

@@ -2,6 +2,7 @@ pub mod Answer
 pub mod Gcr
 pub mod Runs
 pub mod Value
+pub mod Kind
 pub mod Reading
 pub mod Render
 pub mod Move

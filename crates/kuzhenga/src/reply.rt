@@ -4,6 +4,7 @@ use dshot_reply::Decoded;
 use dshot_reply::DshotReply;
 use dshot_reply::ReplyRead;
 use dshot_reply::Transitions;
+use dshot_reply::kind;
 use dshot_reply::simulate;
 use dshot_reply::simulate::PeriodValue;
 ghost use mathlib.Core.Path.{_≡_};
@@ -18,8 +19,8 @@ ghost use Rattle.dshot_reply_spec.specs.Value.{replyOf};
 ghost use Rattle.dshot_reply_spec.specs.Reading.{sampledReply};
 ghost use Rattle.dshot_reply_spec.specs.Simulate.{simulated};
 ghost use Rattle.dshot_reply_spec.specs.Period.{periodValue};
-ghost use Rattle.dshot_reply.specs.Answers.{reading, replyAnswer};
-ghost use Rattle.kuzhenga.specs.Slots.{asked, one, halves, readingSlots, kind, number};
+ghost use Rattle.dshot_reply.specs.Answers.{replyAnswer};
+ghost use Rattle.kuzhenga.specs.Slots.{asked, one, halves, readingSlots};
 
 // The reply word of `value` modulo 4096.
 #[no_mangle]
@@ -70,36 +71,6 @@ pub extern "C" fn kuzhenga_decode_gcr(transitions: u32, value: &mut [u16]) -> u3
     }
 }
 
-// The number of a reply's kind.
-fn kind_of(reply: DshotReply) -> u16
-    ensures { λ r. ⌜ r ≡ kind (reading reply) ⌝ }
-{
-    match reply {
-        DshotReply::Erpm { erpm_div100: _ } => 0,
-        DshotReply::Temperature { celsius: _ } => 1,
-        DshotReply::Voltage { quarter_volts: _ } => 2,
-        DshotReply::Current { amps: _ } => 3,
-        DshotReply::Debug { channel, value: _ } => 3 + channel as u16,
-        DshotReply::StateEvent { value: _ } => 7,
-        DshotReply::ExtendedTelemetryEnabled => 8,
-    }
-}
-
-// The number that a reply carries.
-fn number_of(reply: DshotReply) -> u32
-    ensures { λ r. ⌜ r ≡ number (reading reply) ⌝ }
-{
-    match reply {
-        DshotReply::Erpm { erpm_div100 } => erpm_div100,
-        DshotReply::Temperature { celsius } => celsius as u32,
-        DshotReply::Voltage { quarter_volts } => quarter_volts as u32,
-        DshotReply::Current { amps } => amps as u32,
-        DshotReply::Debug { channel: _, value } => value as u32,
-        DshotReply::StateEvent { value } => value as u32,
-        DshotReply::ExtendedTelemetryEnabled => 0,
-    }
-}
-
 // Puts an answer into three slots: the kind, and the number in two.
 fn put_reply(answer: ReplyRead, out: &mut [u16]) -> u32
     requires { ⌜ length (now out) ≡ 3 ⌝ }
@@ -108,8 +79,8 @@ fn put_reply(answer: ReplyRead, out: &mut [u16]) -> u32
 {
     match answer {
         ReplyRead::Reply(reply) => {
-            let n = number_of(reply);
-            out[0] = kind_of(reply);
+            let n = kind::reading_number(reply);
+            out[0] = kind::kind_number(reply);
             out[1] = (n % 65536) as u16;
             out[2] = (n / 65536) as u16;
             0

@@ -11,11 +11,11 @@ use Rattle.kuzhenga.proofs.reply.put_reply.Tie as tie
 enum-known-answer : tie.Need-enum-known-answer
 enum-known-answer c = search needs
 
-number-of-requires : tie.Need-number-of-requires
-number-of-requires c κs = search needs
+reading-number-requires : tie.Need-reading-number-requires
+reading-number-requires c κs = search needs
 
-kind-of-requires : tie.Need-kind-of-requires
-kind-of-requires c κs = search needs
+kind-number-requires : tie.Need-kind-number-requires
+kind-number-requires c κs = search needs
 
 slice-write-out : tie.Need-slice-write-out
 slice-write-out c = search needs
@@ -44,7 +44,7 @@ same-length c = search needs
 returns : tie.Need-returns
 returns c =
     let s = c .before .before .before .before .before .before in
-    (cc, all-set (s .args .out .now) (c .kind-of .result ∷ halves (c .before .number-of .result)) (s .pre) ∙ cc)
+    (cc, all-set (s .args .out .now) (c .kind-number .result ∷ halves (c .before .reading-number .result)) (s .pre) ∙ cc)
 
 returns-2 : tie.Need-returns-2
 returns-2 c = (cc, cc)
@@ -54,8 +54,8 @@ put-reply-spec =
     tie.close
     (tie.spec
     enum-known-answer
-    number-of-requires
-    kind-of-requires
+    reading-number-requires
+    kind-number-requires
     slice-write-out
     cast-out
     slice-write-out-2

@@ -1,8 +1,8 @@
--- `kuzhenga::reply::kind_of` is the number of the reading's kind, in each arm of its match.
+-- `dshot_reply::kind::kind_number` is the number of the reading's kind, in each arm of its match.
 -- Assumes nothing.
 use borrow.Author.Needs.{needs}
-use Rattle.kuzhenga.proofs.reply.kind_of.Statement.{statement}
-use Rattle.kuzhenga.proofs.reply.kind_of.Tie as tie
+use Rattle.dshot_reply.proofs.kind.kind_number.Statement.{statement}
+use Rattle.dshot_reply.proofs.kind.kind_number.Tie as tie
 
 enum-told : tie.Need-enum-told
 enum-told c = search needs
@@ -19,11 +19,8 @@ enum-told-4 c = search needs
 enum-known-reply : tie.Need-enum-known-reply
 enum-known-reply c = search needs
 
-cast-result : tie.Need-cast-result
-cast-result c = search needs
-
-add-result : tie.Need-add-result
-add-result c = search needs
+debug-kind-requires : tie.Need-debug-kind-requires
+debug-kind-requires c κs = search needs
 
 enum-told-5 : tie.Need-enum-told-5
 enum-told-5 c = search needs
@@ -32,28 +29,28 @@ enum-told-6 : tie.Need-enum-told-6
 enum-told-6 c = search needs
 
 returns : tie.Need-returns
-returns c = cc
+returns c = search needs
 
 returns-2 : tie.Need-returns-2
-returns-2 c = cc
+returns-2 c = search needs
 
 returns-3 : tie.Need-returns-3
-returns-3 c = cc
+returns-3 c = search needs
 
 returns-4 : tie.Need-returns-4
-returns-4 c = cc
+returns-4 c = search needs
 
 returns-5 : tie.Need-returns-5
 returns-5 c = cc
 
 returns-6 : tie.Need-returns-6
-returns-6 c = cc
+returns-6 c = search needs
 
 returns-7 : tie.Need-returns-7
-returns-7 c = cc
+returns-7 c = search needs
 
-pub kind-of-spec : {M : Type 1} → statement M
-kind-of-spec =
+pub kind-number-spec : {M : Type 1} → statement M
+kind-number-spec =
     tie.close
     (tie.spec
     enum-told
@@ -61,8 +58,7 @@ kind-of-spec =
     enum-told-3
     enum-told-4
     enum-known-reply
-    cast-result
-    add-result
+    debug-kind-requires
     enum-told-5
     enum-told-6
     returns

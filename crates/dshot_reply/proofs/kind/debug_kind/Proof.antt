@@ -1,10 +1,10 @@
--- `case_text::answers::debug_kind` has the kind of each channel, in each arm of its match.
+-- `dshot_reply::kind::debug_kind` has the kind of each channel, in each arm of its match.
 -- Assumes nothing.
 use native.Mathlib.Omega.{arith}
 use borrow.Author.Tests.{ne-eqb}
-use Rattle.case_text.specs.Answers.{debugKind}
-use Rattle.case_text.proofs.answers.debug_kind.Statement.{statement}
-use Rattle.case_text.proofs.answers.debug_kind.Tie as tie
+use Rattle.dshot_reply_spec.specs.Kind.{debugKind}
+use Rattle.dshot_reply.proofs.kind.debug_kind.Statement.{statement}
+use Rattle.dshot_reply.proofs.kind.debug_kind.Tie as tie
 
 returns : tie.Need-returns
 unfolding debugKind

@@ -1,0 +1,15 @@
+-- What the digits of a line say, for the theorems that they say the line's numbers.
+-- Assumes nothing.
+use Prim.Native.Nat.{ℕ, _+_, _-_, _*_}
+use mathlib.Core.List.{List, [], _∷_}
+use lib.Dec.{ltb}
+use Rattle.dshot_reply_spec.specs.Answer.{pick}
+
+-- the value of a digit: 0 to 9 stand before a to f in ASCII
+unfoldable pub digitValue : ℕ → ℕ
+digitValue b = pick (ltb b 97) (b - 48) (b - 87)
+
+-- the number that v and the digits after it make in a base
+abbrev pub digitsValue : ℕ → ℕ → List ℕ → ℕ
+digitsValue base v [] = v
+digitsValue base v (b ∷ bs) = digitsValue base (v * base + digitValue b) bs

@@ -1,0 +1,17 @@
+-- What one step of the writer of a line does, for the contracts of private functions. No public promise cites it.
+-- Assumes nothing.
+use Prim.Native.Nat.{ℕ, _+_}
+use mathlib.Core.List.{List, [], _∷_}
+use lib.Dec.{ltb}
+use lib.ListN.{set}
+use Rattle.dshot_reply_spec.specs.Answer.{pick}
+use Rattle.capture_file.specs.declared.line.Line.{Line}
+
+-- one byte more at the end of a line that is not full
+unfoldable pub pushed : Line → ℕ → Line
+pushed line b = pick (ltb (line .length) 32) (record { bytes = set (line .bytes) (line .length) b; length = line .length + 1 }) line
+
+-- bytes one after the other
+abbrev pub written : Line → List ℕ → Line
+written line [] = line
+written line (b ∷ bs) = written (pushed line b) bs

@@ -1,0 +1,30 @@
+-- The kind of a reading as a number, and the number that it carries: the last two fields of document 01's line of the bench.
+-- Assumes nothing.
+use Prim.Native.Nat.{ℕ}
+use lib.Dec.{eqb}
+use Rattle.dshot_reply_spec.specs.Answer.{pick}
+use Rattle.dshot_reply_spec.specs.Value.{Reading, erpm, temp, volt, amp, debug, state, edt}
+
+-- the kinds of the debug channels 1 to 3; another channel, which no reading of the library has, gets 9, which is no kind
+unfoldable pub debugKind : ℕ → ℕ
+debugKind channel = pick (eqb channel 1) 4 (pick (eqb channel 2) 5 (pick (eqb channel 3) 6 9))
+
+-- the kinds in the order of the line: erpm, temp, volt, amp, debug1 to debug3, state, edt
+abbrev pub kindNumber : Reading → ℕ
+kindNumber (erpm n) = 0
+kindNumber (temp n) = 1
+kindNumber (volt n) = 2
+kindNumber (amp n) = 3
+kindNumber (debug channel n) = debugKind channel
+kindNumber (state n) = 7
+kindNumber edt = 8
+
+-- the number that a reading carries; the acknowledgement carries none
+abbrev pub readingNumber : Reading → ℕ
+readingNumber (erpm n) = n
+readingNumber (temp n) = n
+readingNumber (volt n) = n
+readingNumber (amp n) = n
+readingNumber (debug channel n) = n
+readingNumber (state n) = n
+readingNumber edt = 0
