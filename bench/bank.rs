@@ -9,7 +9,7 @@ use ferrowasp_output::dshot::DshotTiming;
 use ferrowasp_output::dshot_reply::DshotReply;
 use std::cell::Cell;
 
-const LEASE_MS: u32 = 10;
+pub const LEASE_MS: u32 = 10;
 
 /// What a run of cycles is given: for each cycle four throttles and four captures.
 pub struct Cycles {
@@ -33,8 +33,8 @@ pub struct Left {
     pub counts: [[u32; 4]; 6],
 }
 
-#[inline(never)]
-pub fn original_cycles(cycles: &Cycles, left: &mut Left) {
+/// A bank of the source on buffers of its own, which are given back.
+fn with_bank(cycles: &Cycles, left: &mut Left, run: impl FnOnce(&mut DshotBank<Lanes>)) {
     let buffers = Box::into_raw(Box::new(left.buffers));
     // The bank is gone before the box is taken back.
     let [current, spares] = unsafe { &mut *buffers }.each_mut();
@@ -51,16 +51,53 @@ pub fn original_cycles(cycles: &Cycles, left: &mut Left) {
     let mut bank = DshotBank::from_lanes(lanes, spares.each_mut(), timing(cycles.timing));
     // Refused where the lanes do not receive.
     let _ = bank.enable_bidirectional();
-    for (now_ms, throttles) in (0..).zip(&cycles.throttles) {
-        let _ = bank.command_throttles(*throttles, now_ms, LEASE_MS);
-        bank.service(now_ms);
-        for interrupt in 0..cycles.interrupts {
-            bank.on_dma_interrupt(DshotMotor::ALL[interrupt % 4]);
-        }
-    }
+    run(&mut bank);
     left.counts = counts(&mut bank, sum.get());
     drop(bank);
     left.buffers = *unsafe { Box::from_raw(buffers) };
+}
+
+#[inline(never)]
+pub fn original_cycles(cycles: &Cycles, left: &mut Left) {
+    with_bank(cycles, left, |bank| {
+        for (now_ms, throttles) in (0..).zip(&cycles.throttles) {
+            let _ = bank.command_throttles(*throttles, now_ms, LEASE_MS);
+            bank.service(now_ms);
+            for interrupt in 0..cycles.interrupts {
+                bank.on_dma_interrupt(DshotMotor::ALL[interrupt % 4]);
+            }
+        }
+    });
+}
+
+/// The same, with each call of the bank a call of its own: a host's loop and its interrupt handlers
+/// do not see into each other.
+#[inline(never)]
+pub fn original_calls(cycles: &Cycles, left: &mut Left) {
+    with_bank(cycles, left, |bank| {
+        for (now_ms, throttles) in (0..).zip(&cycles.throttles) {
+            command(bank, throttles, now_ms);
+            serve(bank, now_ms);
+            for interrupt in 0..cycles.interrupts {
+                interrupted(bank, DshotMotor::ALL[interrupt % 4]);
+            }
+        }
+    });
+}
+
+#[inline(never)]
+fn command(bank: &mut DshotBank<Lanes>, throttles: &[u16; 4], now_ms: u64) {
+    let _ = bank.command_throttles(*throttles, now_ms, LEASE_MS);
+}
+
+#[inline(never)]
+fn serve(bank: &mut DshotBank<Lanes>, now_ms: u64) {
+    bank.service(now_ms);
+}
+
+#[inline(never)]
+fn interrupted(bank: &mut DshotBank<Lanes>, motor: DshotMotor) {
+    bank.on_dma_interrupt(motor);
 }
 
 fn timing([arr, zero_high, one_high, reply_sample_arr]: [u16; 4]) -> DshotTiming {

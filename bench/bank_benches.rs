@@ -1,44 +1,56 @@
 //! The benches on the cycles of a bank. In a cycle the second has more than the third: four more
 //! interrupts, the lanes turned twice, and four absent windows that are decoded and counted.
 
-use crate::bank::{library_cycles, original_cycles, Cycles, Left};
+use crate::bank::{library_cycles, original_calls, original_cycles, Cycles, Left};
+use crate::bank_calls::called_cycles;
 use crate::bank_inputs::cycles;
 use crate::benches::{pass, Bench};
 use std::rc::Rc;
 
-/// All cycles of a run are one input, and the loop over them is the side's own.
-fn bench(name: &'static str, cycles: Cycles) -> Bench {
+/// The original's cycles, and the library's.
+#[derive(Clone, Copy)]
+struct Sides(fn(&Cycles, &mut Left), fn(&Cycles, &mut Left) -> u32);
+
+/// In a loop of each side's own, or each call of the bank by itself, from the driver.
+const LOOPS: Sides = Sides(original_cycles, library_cycles);
+const CALLS: Sides = Sides(original_calls, called_cycles);
+
+/// All cycles of a run are one input.
+fn bench(name: &'static str, cycles: Cycles, Sides(original, library): Sides) -> Bench {
     let calls = cycles.throttles.len();
     let runs: Rc<[Cycles]> = Rc::from([cycles]);
     let none = Left::default();
-    let sides = [
-        pass(&runs, none, original_cycles),
-        pass(&runs, none, library_cycles),
-    ];
+    let sides = [pass(&runs, none, original), pass(&runs, none, library)];
     Bench { name, calls, sides }
 }
 
-fn runs() -> [(&'static str, Cycles); 3] {
-    let one_way = Cycles {
+fn one_way() -> Cycles {
+    Cycles {
         bidirectional: false,
         interrupts: 4,
         ..cycles(false)
-    };
+    }
+}
+
+fn runs() -> [(&'static str, Cycles, Sides); 6] {
     [
-        ("bank, a cycle with four replies", cycles(true)),
-        ("bank, a cycle without captures", cycles(false)),
-        ("bank, a cycle of one direction", one_way),
+        ("bank, a cycle with four replies", cycles(true), LOOPS),
+        ("bank, a cycle without captures", cycles(false), LOOPS),
+        ("bank, a cycle of one direction", one_way(), LOOPS),
+        ("the first, each call by itself", cycles(true), CALLS),
+        ("the second, each call by itself", cycles(false), CALLS),
+        ("the third, each call by itself", one_way(), CALLS),
     ]
 }
 
-pub fn all() -> [Bench; 3] {
-    runs().map(|(name, cycles)| bench(name, cycles))
+pub fn all() -> [Bench; 6] {
+    runs().map(|(name, cycles, sides)| bench(name, cycles, sides))
 }
 
-fn same((_, cycles): (&str, Cycles)) -> bool {
+fn same((_, cycles, Sides(original_side, library_side)): (&str, Cycles, Sides)) -> bool {
     let [mut original, mut library] = [Left::default(); 2];
-    original_cycles(&cycles, &mut original);
-    let refusal = library_cycles(&cycles, &mut library);
+    original_side(&cycles, &mut original);
+    let refusal = library_side(&cycles, &mut library);
     refusal == 0 && original == library && whole(&cycles, &original)
 }
 

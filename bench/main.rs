@@ -3,6 +3,7 @@
 
 mod bank;
 mod bank_benches;
+mod bank_calls;
 mod bank_inputs;
 mod bank_lanes;
 mod benches;

@@ -20,7 +20,8 @@ use Rattle.dshot_bank.specs.declared.orders.Orders.{Orders}
 use Rattle.dshot_bank.specs.declared.interrupt.DshotInterruptEvent.{DshotInterruptEvent}
 use Rattle.dshot_bank.specs.declared.interrupt.Handled.{Handled}
 use Rattle.dshot_bank.specs.States.{motorOf, coreOf, repliesOf, stateOf, stepped}
-use Rattle.dshot_bank.specs.Orders.{held, dutiesIn, ordersOf, Begins, Just, Whole}
+use Rattle.dshot_bank.specs.Orders.{held, ordersOf, Begins, Just, Whole}
+use Rattle.dshot_bank_spec.specs.OrderNumber.{dutiesIn}
 use Rattle.dshot_bank.specs.Interrupts.{interruptEventOf, Interrupts}
 use Rattle.dshot_bank.proofs.OrderLaws.{Own, Kept, kept-cons, own-paused, kept-latched, duties-latched, whole, back, just}
 

@@ -17,7 +17,8 @@ use Rattle.dshot_bank.specs.declared.orders.OrderKind.the-variants.{None
 use Rattle.dshot_bank.specs.declared.orders.Orders.{Orders}
 use Rattle.dshot_bank.specs.States.{motorOf}
 use Rattle.dshot_bank.proofs.StepLaws.{motor-small}
-use Rattle.dshot_bank.specs.Orders.{kindNumber, code, codesOf, above, held, dutiesIn, kindAt, orderOf, ordersFrom, ordersOf, ordersIn, Just, Whole}
+use Rattle.dshot_bank.specs.Orders.{kindNumber, codesOf, above, held, kindAt, orderOf, ordersFrom, ordersOf, ordersIn, Just, Whole}
+use Rattle.dshot_bank_spec.specs.OrderNumber.{code, dutiesIn}
 
 pub kind-small : (k : OrderKind) → kindNumber k ≤ 8
 kind-small None = omega arith

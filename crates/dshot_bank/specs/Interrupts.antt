@@ -14,7 +14,8 @@ use Rattle.dshot_bank.specs.declared.interrupt.Interrupt.{Interrupt}
 use Rattle.dshot_bank.specs.declared.interrupt.Interrupt.the-variants.{Event, NoSuchMotor}
 use Rattle.dshot_bank.specs.declared.interrupt.Handled.{Handled}
 use Rattle.dshot_bank.specs.States.{coreOf}
-use Rattle.dshot_bank.specs.Orders.{held, dutiesIn, Whole}
+use Rattle.dshot_bank.specs.Orders.{held, Whole}
+use Rattle.dshot_bank_spec.specs.OrderNumber.{dutiesIn}
 
 abbrev pub interruptEventOf : DshotInterruptEvent → InterruptEvent
 interruptEventOf Completed = completed

@@ -8,6 +8,7 @@ use lib.ListN.{length, replicate}
 use Rattle.dshot_reply_spec.specs.Answer.{pick}
 use Rattle.dshot_bank_spec.specs.Order.{exchange-buffer, start-dma, start-frame, stop-frame, force-outputs-low, pause-and-clear, begin-receive, end-receive}
 use Rattle.dshot_bank_spec.specs.Order as Spec
+use Rattle.dshot_bank_spec.specs.OrderNumber.{code, dutiesIn}
 use Rattle.dshot_bank_spec.specs.Calls.{Answer, done, refused, motor-sent, serviced, interrupted, replied, flag, counts, values, reply-counts, slots}
 use Rattle.dshot_bank.specs.declared.DshotMotor.{DshotMotor}
 use Rattle.dshot_bank.specs.declared.orders.OrderKind.{OrderKind}
@@ -27,17 +28,6 @@ kindNumber PauseAndClear = 6
 kindNumber BeginReceive = 7
 kindNumber EndReceive = 8
 
--- the number of an order: eight times that of its kind, and its lane, 0 where it is for all
-abbrev pub code : Spec.Order → ℕ
-code (exchange-buffer m) = 8 * 1 + m
-code (start-dma m) = 8 * 2 + m
-code (start-frame d) = 8 * 3
-code stop-frame = 8 * 4
-code force-outputs-low = 8 * 5
-code (pause-and-clear m) = 8 * 6 + m
-code begin-receive = 8 * 7
-code end-receive = 8 * 8
-
 -- the numbers of some orders in one, the first in the lowest seven bits
 abbrev pub codesOf : List Spec.Order → ℕ
 codesOf [] = 0
@@ -55,18 +45,6 @@ held l = record { count = length l; codes = codesOf l }
 -- an interrupt's first order
 abbrev pub Begins : Orders → DshotMotor → Type 0
 Begins o motor = o ≡ held (pause-and-clear (motorOf motor) ∷ [])
-
--- the first duties that a list of orders has, or zeros
-abbrev pub dutiesIn : List Spec.Order → List ℕ
-dutiesIn [] = replicate 4 0
-dutiesIn (exchange-buffer m ∷ l) = dutiesIn l
-dutiesIn (start-dma m ∷ l) = dutiesIn l
-dutiesIn (start-frame d ∷ l) = d
-dutiesIn (stop-frame ∷ l) = dutiesIn l
-dutiesIn (force-outputs-low ∷ l) = dutiesIn l
-dutiesIn (pause-and-clear m ∷ l) = dutiesIn l
-dutiesIn (begin-receive ∷ l) = dutiesIn l
-dutiesIn (end-receive ∷ l) = dutiesIn l
 
 -- ---- the other way
 

@@ -12,7 +12,8 @@ use Rattle.dshot_bank.specs.declared.send.NextFrame.{NextFrame}
 use Rattle.dshot_bank.specs.declared.send.FrameSet.{FrameSet}
 use Rattle.dshot_bank.specs.declared.send.Sent.{Sent}
 use Rattle.dshot_bank.specs.States.{motorOf, choiceOf, commandSequenceOf, coreOf}
-use Rattle.dshot_bank.specs.Orders.{held, dutiesIn, Whole}
+use Rattle.dshot_bank.specs.Orders.{held, Whole}
+use Rattle.dshot_bank_spec.specs.OrderNumber.{dutiesIn}
 
 -- the Rust's `Option<(DshotMotor, u16)>`
 abbrev pub motorCommandOf : FrameCommand → Option MotorCommand

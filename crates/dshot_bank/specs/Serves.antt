@@ -15,7 +15,8 @@ use Rattle.dshot_bank.specs.declared.service.Service.the-variants.{Event
 use Rattle.dshot_bank.specs.declared.service.Served.{Served}
 use Rattle.dshot_bank.specs.declared.service.Skipped.{Skipped}
 use Rattle.dshot_bank.specs.States.{coreOf, bankOf}
-use Rattle.dshot_bank.specs.Orders.{held, dutiesIn, Whole}
+use Rattle.dshot_bank.specs.Orders.{held, Whole}
+use Rattle.dshot_bank_spec.specs.OrderNumber.{dutiesIn}
 
 abbrev pub serviceEventOf : DshotServiceEvent → ServiceEvent
 serviceEventOf FrameStarted = frame-started

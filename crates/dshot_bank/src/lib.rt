@@ -33,7 +33,7 @@ pub mod commands;
 pub mod replies;
 
 // Faults and frame sets.
-mod send;
+pub mod send;
 
 // The service of a bank.
 pub mod service;

@@ -13,7 +13,8 @@ ghost use Rattle.dshot_spec.specs.Tabulate.{tabulate};
 ghost use Rattle.dshot_bank_spec.specs.Order as Spec;
 ghost use Rattle.dshot_bank_spec.specs.Order.{exchange-buffer, latchOrders, startOrders, refusedOrders};
 ghost use Rattle.dshot_bank.specs.States.{motorOf};
-ghost use Rattle.dshot_bank.specs.Orders.{code, codesOf, above, held, kindNumber, kindAt, firstOrder, restOrders, Begins};
+ghost use Rattle.dshot_bank.specs.Orders.{codesOf, above, held, kindNumber, kindAt, firstOrder, restOrders, Begins};
+ghost use Rattle.dshot_bank_spec.specs.OrderNumber.{code};
 
 pub enum OrderKind {
     None,

@@ -65,7 +65,7 @@ fn saturating_add(count: u32) -> u32
 }
 
 impl StoredReply {
-    pub(crate) fn of(reply: ReplyRead) -> Self
+    pub fn of(reply: ReplyRead) -> Self
         ensures { λ r. ⌜ storedAnswer r ≡ replyAnswer reply ⌝ }
     {
         match reply {
@@ -139,7 +139,7 @@ impl StoredReply {
 
 impl LaneReply {
     // The lane's record after one more reply.
-    fn counting(self, reply: StoredReply) -> Self
+    pub fn counting(self, reply: StoredReply) -> Self
         ensures { λ r. ⌜ laneReplyOf r ≡ countReply (storedAnswer reply) (laneReplyOf self) ⌝ }
     {
         if reply.is_ok() {

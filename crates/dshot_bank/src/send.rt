@@ -12,6 +12,7 @@ use crate::LANES;
 use crate::MotorChoice;
 use crate::Requests;
 use crate::commands::any_requested;
+use crate::looks::buffers_fit;
 use crate::orders::Orders;
 use crate::replies::LaneFlags;
 use crate::replies::wrapping_add;
@@ -37,6 +38,7 @@ ghost use Rattle.dshot.specs.Answers.{kindOf, laneOf, words, timingOf, commandO
 ghost use Rattle.dshot_bank_spec.specs.Lanes.{position};
 ghost use Rattle.dshot_bank_spec.specs.State.{Buffers};
 ghost use Rattle.dshot_bank_spec.specs.With.{withFramesStarted, withFrame, withInSecond};
+ghost use Rattle.dshot_bank_spec.specs.Calls.{slotsFit};
 ghost use Rattle.dshot_bank_spec.specs.Commands.{nextOf, nextOfRun, nextCommandFrame};
 ghost use Rattle.dshot_bank_spec.specs.Replies.{wrappingAdd};
 ghost use Rattle.dshot_bank_spec.specs.Send.{countFault, latchFault, frameSet, kindSent, firstDuties, writeSpare, encodeLanes, turnMarks, carry, exchangeRefused, frameStarted, exchangeBuffers, sendRequested, sentBuffers, asLane};
@@ -298,6 +300,23 @@ fn encode_lanes(
         duties[lane] = write_spare(first, second, in_second[lane], lane, packet, timing);
     }
     duties
+}
+
+// The same for any two buffers: where one has another length nothing is written, and the duties are zeros.
+pub fn encode_spares(
+    first: &mut [u16],
+    second: &mut [u16],
+    in_second: LaneFlags,
+    packets: MotorPackets,
+    timing: DshotTiming,
+) -> MotorValues
+    ensures { λ r. ⌜ r ≡ pick (slotsFit 4 (length (now (first .entry))) (length (now (second .entry)))) (firstDuties 4 (timingOf timing) (words packets)) (replicate 4 0) ⌝ }
+    ensures { λ r. ⌜ _≡_ {A = Buffers} (record { first = now (first .exit); second = now (second .exit) }) (pick (slotsFit 4 (length (now (first .entry))) (length (now (second .entry)))) (encodeLanes 4 (timingOf timing) «in_second» (words packets) (record { first = now (first .entry); second = now (second .entry) })) (record { first = now (first .entry); second = now (second .entry) })) ⌝ }
+{
+    if !buffers_fit(first.len(), second.len()) {
+        return [0; LANES];
+    }
+    encode_lanes(first, second, in_second, packets, timing)
 }
 
 // ---- the exchange

@@ -16,7 +16,8 @@ use Rattle.dshot_bank_spec.specs.Calls as Calls
 use Rattle.dshot_bank_spec.specs.Calls.{Call, State, Stepped, step, on-dma-interrupt}
 use Rattle.dshot_bank.proofs.ReplyLaws.{fit-both}
 use Rattle.dshot_bank.specs.declared.orders.Orders.{Orders}
-use Rattle.dshot_bank.specs.Orders.{held, dutiesIn, ordersIn, Just}
+use Rattle.dshot_bank.specs.Orders.{held, ordersIn, Just}
+use Rattle.dshot_bank_spec.specs.OrderNumber.{dutiesIn}
 use Rattle.dshot_bank_bench.specs.Cycles.{addAll, numbersIn, told, Run, after, interrupts, throttlesAt, cycle, cycles, fit, firstOf, secondOf, countsOf}
 
 -- ---- sums

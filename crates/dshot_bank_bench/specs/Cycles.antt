@@ -14,7 +14,8 @@ use Rattle.dshot_bank_spec.specs.State.{Stats, LaneReply, Bank, Buffers}
 use Rattle.dshot_bank_spec.specs.Commands.{fromLanes}
 use Rattle.dshot_bank_spec.specs.Calls.{Call, State, step, enable-bidirectional, command-throttles, service-call, on-dma-interrupt}
 use Rattle.dshot_bank.specs.declared.orders.Orders.{Orders}
-use Rattle.dshot_bank.specs.Orders.{held, dutiesIn, ordersIn}
+use Rattle.dshot_bank.specs.Orders.{held, ordersIn}
+use Rattle.dshot_bank_spec.specs.OrderNumber.{dutiesIn}
 
 -- ---- the sum of what is ordered, modulo 2 ^ 32
 

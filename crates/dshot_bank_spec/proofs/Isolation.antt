@@ -186,7 +186,7 @@ module _ (n lane : ℕ) (s s′ : State) (e : hideState lane s ≡ hideState lan
 
 -- ---- lists of calls
 
-step-alike : (n lane : ℕ) {c c′ : Call} → Alike lane c c′ → (s s′ : State) → hideState lane s ≡ hideState lane s′
+pub step-alike : (n lane : ℕ) {c c′ : Call} → Alike lane c c′ → (s s′ : State) → hideState lane s ≡ hideState lane s′
     → hide lane (step n s c) ≡ hide lane (step n s′ c′)
 step-alike n lane (same c) s s′ e = alike-step n lane s s′ e c c (same-alike n lane s s′ e c)
 step-alike n lane (captured now taken present {m = m} {m′ = m′} {s = x} {s′ = x′} el lo hi em) s s′ e =

@@ -2,6 +2,7 @@ pub mod Lanes
 pub mod State
 pub mod With
 pub mod Order
+pub mod OrderNumber
 pub mod Refusals
 pub mod Commands
 pub mod Replies

@@ -5,6 +5,8 @@
 // milliseconds 64 bits; where one is wider than what it stands for, the call says what counts. A flag of 0 is no, any other yes. No `bool`, enum
 // or struct is passed.
 
+// A bank, its state in lent slots.
+pub mod bank;
 // Throttles, command runs and leases.
 pub mod command;
 // Packets and sequences, read.

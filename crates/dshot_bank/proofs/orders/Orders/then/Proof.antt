@@ -5,7 +5,8 @@ use Prim.Native.Nat.{_+_, _*_, _≤_}
 use native.Mathlib.Omega.{arith}
 use borrow.Author.Needs.{needs}
 use Rattle.dshot_bank.specs.declared.orders.Orders.{Orders}
-use Rattle.dshot_bank.specs.Orders.{kindNumber, code, held}
+use Rattle.dshot_bank.specs.Orders.{kindNumber, held}
+use Rattle.dshot_bank_spec.specs.OrderNumber.{code}
 use Rattle.dshot_bank.proofs.OrderLaws.{kind-small}
 use Rattle.dshot_bank.proofs.orders.Orders.then.Statement.{statement}
 use Rattle.dshot_bank.proofs.orders.Orders.then.Tie as tie

@@ -1,0 +1,81 @@
+-- A reply counted in a lane's slots: the kind and number before it are not looked at.
+use mathlib.Core.Path.{_∙_, ap}
+use Rattle.dshot_bank_spec.specs.State.{LaneReply}
+use Rattle.bank_slots_spec.specs.Memory.{at, write}
+use Rattle.bank_slots_spec.specs.Layout.{laneRows}
+use Rattle.bank_slots_spec.specs.Parts.{laneFrom}
+use Rattle.bank_slots_spec.proofs.ReplyMoves.{counts-of}
+use borrow.Author.Needs.{needs}
+use Rattle.bank_slots.proofs.replies.count_reply.Statement.{statement}
+use Rattle.bank_slots.proofs.replies.count_reply.Tie as tie
+use Rattle.bank_slots.proofs.replies.count_reply.Reads as reads
+use Rattle.bank_slots.proofs.replies.count_reply.Lts as lts
+use Rattle.bank_slots.proofs.memory.word_at.Reads as word-at-reads
+use Rattle.bank_slots.proofs.replies.put_lane.Reads as put-lane-reads
+use Rattle.dshot_bank.proofs.LaneReply.counting.Reads as counting-reads
+use Rattle.dshot_bank.proofs.StoredReply.of.Reads as of-reads
+
+-- src/replies.rt:102:31
+add-word-at : tie.Need-add-word-at
+add-word-at c = search needs
+
+-- src/replies.rt:102:16
+word-at-requires : tie.Need-word-at-requires
+word-at-requires c κs = search needs
+
+-- src/replies.rt:103:33
+add-word-at-2 : tie.Need-add-word-at-2
+add-word-at-2 c = search needs
+
+-- src/replies.rt:103:18
+word-at-requires-2 : tie.Need-word-at-requires-2
+word-at-requires-2 c κs = search needs
+
+-- src/replies.rt:104:45
+add-word-at-3 : tie.Need-add-word-at-3
+add-word-at-3 c = search needs
+
+-- src/replies.rt:104:30
+word-at-requires-3 : tie.Need-word-at-requires-3
+word-at-requires-3 c κs = search needs
+
+-- src/replies.rt:106:40
+of-requires : tie.Need-of-requires
+of-requires c κs = search needs
+
+-- src/replies.rt:106:24
+counting-requires : tie.Need-counting-requires
+counting-requires c κs = search needs
+
+-- src/replies.rt:106:5
+put-lane-requires : tie.Need-put-lane-requires
+put-lane-requires c κs = search needs
+
+-- src/replies.rt:96:1
+same-length : tie.Need-same-length
+same-length c = search needs
+
+-- src/replies.rt:96:1
+returns : tie.Need-returns
+returns c =
+    let a = c .before .before .before .before .before .before .before .before .before .before .before .before .before .args in
+    let xs = a .state .now in
+    c .before .before .put-lane .ensures
+    ∙ ap (λ (l : LaneReply). write (laneRows (a .k) l) xs)
+    (c .before .before .before .counting .ensures ∙ counts-of (laneFrom (a .k) (at xs)) (c .before .before .before .before .of .ensures) (c .before .before .before .before .before .before .before .before .before .before .word-at .ensures) (c .before .before .before .before .before .before .before .before .word-at2 .ensures) (c .before .before .before .before .before .before .word-at3 .ensures))
+
+pub count-reply-spec : {M : Type 1} → statement M
+count-reply-spec =
+    tie.close
+    (tie.spec
+    add-word-at
+    word-at-requires
+    add-word-at-2
+    word-at-requires-2
+    add-word-at-3
+    word-at-requires-3
+    of-requires
+    counting-requires
+    put-lane-requires
+    same-length
+    returns)

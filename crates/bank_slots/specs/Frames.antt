@@ -1,0 +1,29 @@
+-- What the private functions that send a frame set return, in the terms of the definitions.
+-- Assumes nothing.
+use Prim.Native.Nat.{ℕ, _<_}
+use mathlib.Core.Path.{_≡_}
+use mathlib.Core.Option.{Option, none, some}
+use Rattle.dshot.specs.Answers.{laneOf}
+use Rattle.dshot_bank_spec.specs.State.{Core}
+use Rattle.dshot_bank_spec.specs.Commands.{MotorCommand}
+use Rattle.dshot_bank_spec.specs.Send.{frameSet}
+use Rattle.bank_slots_spec.specs.Parts.{carriedBy}
+use Rattle.bank_slots.specs.declared.send.NextFrame.{NextFrame}
+use Rattle.bank_slots.specs.declared.send.NextFrame.the-variants as NextFrame·
+use Rattle.bank_slots.specs.declared.send.FrameSet.{FrameSet}
+
+-- the Rust's `Option<(DshotMotor, u16)>`
+abbrev pub motorCommandOf : NextFrame → Option MotorCommand
+motorCommandOf NextFrame·.None = none
+motorCommandOf (NextFrame·.Command m v) = some (record { motor = m; command = v })
+
+-- a command is for one of the four lanes
+abbrev pub OnLane : NextFrame → Type 0
+OnLane NextFrame·.None = Unit
+OnLane (NextFrame·.Command m v) = m < 4
+
+-- the same values and telemetry lane, and the request that is carried
+pub record Sets (r : FrameSet) (c : Core) (m : Option MotorCommand) : Type 0 where
+  pub values : r .values ≡ frameSet 4 c m .values
+  pub lane : laneOf (r .«telemetry_lane») ≡ frameSet 4 c m .telemetryLane
+  pub request : carriedBy (r .ordinary) c ≡ frameSet 4 c m .telemetryRequest

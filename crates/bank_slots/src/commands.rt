@@ -1,0 +1,273 @@
+// Ported from crates/ferrowasp-stm32-critical/src/dshot_bank.rs of Eirik2020/ferro-wasp at commit 9cb8aca1a6, Copyright (c) 2026 Kaldstrand,
+// under the Apache License, Version 2.0 (see NOTICE). Changed: ported to Rattle, on a state in lent slots, with a promise for each call; each
+// refuses slices of other lengths and a lane above 3.
+//
+// The calls that make a bank and command it: demands, runs of special commands, and telemetry requests.
+
+use crate::BIDIRECTIONAL;
+use crate::FAULTED;
+use crate::LANES;
+use crate::LEASE_OVER;
+use crate::LEASE_STARTED;
+use crate::REPLIES;
+use crate::REQUEST;
+use crate::RUN;
+use crate::SENT;
+use crate::SLOTS;
+use crate::VALUES;
+use crate::memory::flag;
+use crate::memory::joined_long;
+use crate::memory::long_at;
+use crate::memory::put_long;
+use crate::memory::zero;
+use crate::steps::clear_request;
+use crate::steps::clear_sent;
+use crate::steps::stop;
+ghost use mathlib.Core.Path.{_≡_};
+ghost use mathlib.Core.Bool.{true};
+ghost use Prim.Native.Nat.{_<_, min};
+ghost use lib.Dec.{ltb};
+ghost use lib.ListN.{length};
+ghost use Rattle.dshot_reply_spec.specs.Answer.{pick};
+ghost use Rattle.dshot_bank_spec.specs.Lanes.{any};
+ghost use Rattle.dshot_bank_spec.specs.State.{Buffers};
+ghost use Rattle.dshot_bank_spec.specs.Commands.{fromLanes, isRunning};
+ghost use Rattle.dshot_bank_spec.specs.Calls as Call;
+ghost use Rattle.bank_slots_spec.specs.Memory.{at};
+ghost use Rattle.bank_slots_spec.specs.Layout.{slots, choice, timingAt, load, store};
+ghost use Rattle.bank_slots_spec.specs.Moves.{Moves, onCore};
+ghost use Rattle.bank_slots_spec.specs.Called.{Called, fit, long, stateAt, answerOf};
+ghost use Rattle.bank_slots_spec.specs.Outs.{motorSlots, outAfter, runGiven};
+ghost use Rattle.bank_slots_spec.specs.Parts.{demanded, queued};
+
+const DSHOT_COMMAND_MAX: u16 = 2000;
+
+// The stored reply of a lane of which no window has been read.
+const NO_REPLY: u16 = 7;
+
+// ---- a new bank
+
+// A new bank of a timing: the first lent buffer is current, the second spare.
+pub fn from_lanes(timing: &[u16], bank: &mut [u16]) -> u32
+    ensures { λ r. ⌜ r ≡ pick (fit (now (bank .entry)) (long 4 (now (timing .entry)))) 0 13 ⌝ }
+    ensures { λ r. ⌜ now (bank .exit) ≡ pick (fit (now (bank .entry)) (long 4 (now (timing .entry)))) (store (fromLanes 4 (timingAt (at (now (timing .entry)))))) (now (bank .entry)) ⌝ }
+{
+    if bank.len() != SLOTS {
+        return 13;
+    }
+    if timing.len() != 4 {
+        return 13;
+    }
+    zero(bank);
+    bank[0] = timing[0];
+    bank[1] = timing[1];
+    bank[2] = timing[2];
+    bank[3] = timing[3];
+    bank[REPLIES] = NO_REPLY;
+    bank[REPLIES + 9] = NO_REPLY;
+    bank[REPLIES + 18] = NO_REPLY;
+    bank[REPLIES + 27] = NO_REPLY;
+    0
+}
+
+// Switches to bidirectional DShot: meant for before the first frame, and not refused later. Refused if a lane cannot receive replies.
+pub fn enable_bidirectional(bank: &mut [u16], receives_replies: bool) -> u32
+    ensures { λ r. ⌜ ((b : Buffers) → Called (fit (now (bank .entry)) true) (Call.enable-bidirectional «receives_replies») b (now (bank .entry)) (now (bank .exit)) r) ⌝ }
+{
+    if bank.len() != SLOTS {
+        return 13;
+    }
+    if !receives_replies {
+        return 22;
+    }
+    bank[BIDIRECTIONAL] = 1;
+    0
+}
+
+// ---- demands
+
+pub fn command_stop(bank: &mut [u16]) -> u32
+    ensures { λ r. ⌜ ((b : Buffers) → Called (fit (now (bank .entry)) true) Call.command-stop b (now (bank .entry)) (now (bank .exit)) r) ⌝ }
+{
+    if bank.len() != SLOTS {
+        return 13;
+    }
+    stop(bank);
+    0
+}
+
+pub(crate) fn any_above(values: &[u16], most: u16) -> bool
+    requires { ⌜ length (now values) ≡ 4 ⌝ }
+    ensures { λ r. ⌜ r ≡ any (ltb most) (now (values .entry)) ⌝ }
+{
+    for lane in 0..LANES {
+        if values[lane] > most {
+            return true;
+        }
+    }
+    false
+}
+
+fn demand(bank: &mut [u16], commands: &[u16], now_ms: u64, lease_duration_ms: u32)
+    requires { ⌜ (length (now bank) ≡ slots) × (length (now commands) ≡ 4) ⌝ }
+    ensures { λ r. ⌜ Moves (onCore (demanded (now (commands .entry)) «now_ms» «lease_duration_ms»)) (now (bank .entry)) (now (bank .exit)) ⌝ }
+{
+    let values = dshot::throttles_to_dshot([commands[0], commands[1], commands[2], commands[3]]);
+    // In one store: a service reads them in one load, which would wait for several.
+    put_long(
+        bank,
+        VALUES,
+        joined_long(values[0], values[1], values[2], values[3]),
+    );
+    put_long(bank, LEASE_STARTED, now_ms);
+    put_long(bank, LEASE_OVER, lease_duration_ms as u64 + 1);
+}
+
+// The throttles of the four motors, each up to 2000, and how long they are in force.
+pub fn command_throttles(
+    bank: &mut [u16],
+    commands: &[u16],
+    now_ms: u64,
+    lease_duration_ms: u32,
+) -> u32
+    ensures { λ r. ⌜ ((b : Buffers) → Called (fit (now (bank .entry)) (long 4 (now (commands .entry)))) (Call.command-throttles (now (commands .entry)) «now_ms» «lease_duration_ms») b (now (bank .entry)) (now (bank .exit)) r) ⌝ }
+{
+    if bank.len() != SLOTS {
+        return 13;
+    }
+    if commands.len() != LANES {
+        return 13;
+    }
+    if flag(bank[FAULTED]) {
+        return 18;
+    }
+    if any_above(commands, DSHOT_COMMAND_MAX) {
+        return 6;
+    }
+    if !any_above(commands, 0) {
+        stop(bank);
+        return 0;
+    }
+    demand(bank, commands, now_ms, lease_duration_ms);
+    0
+}
+
+// ---- runs of commands
+
+fn is_running(bank: &[u16]) -> bool
+    requires { ⌜ length (now bank) ≡ slots ⌝ }
+    ensures { λ r. ⌜ r ≡ isRunning (load (now (bank .entry)) .core .demand) ⌝ }
+{
+    if long_at(bank, LEASE_OVER) != 0 {
+        return true;
+    }
+    any_above(&bank[VALUES..VALUES + LANES], 0)
+}
+
+fn least(x: u16, most: u16) -> u16
+    ensures { λ r. ⌜ r ≡ min x most ⌝ }
+{
+    if most < x { most } else { x }
+}
+
+fn queue(bank: &mut [u16], motor: usize, sequence: &[u16])
+    requires { ⌜ (length (now bank) ≡ slots) × (length (now sequence) ≡ 4) × (motor < 4) ⌝ }
+    ensures { λ r. ⌜ Moves (onCore (queued motor (runGiven (now (sequence .entry))))) (now (bank .entry)) (now (bank .exit)) ⌝ }
+{
+    bank[RUN] = motor as u16 + 1;
+    bank[RUN + 1] = sequence[0];
+    bank[RUN + 2] = sequence[1];
+    bank[RUN + 3] = least(sequence[2], 255);
+    bank[RUN + 4] = sequence[3] % 256;
+}
+
+// Queues a run of special-command frames for one motor, such as a spin direction change and save: the run in four slots.
+//
+// Refused unless every motor is stopped with no command lease, so a command frame never replaces a throttle frame on a spinning motor.
+pub fn command_special(bank: &mut [u16], motor: usize, sequence: &[u16]) -> u32
+    ensures { λ r. ⌜ ((b : Buffers) → Called (fit (now (bank .entry)) (long 4 (now (sequence .entry)))) (Call.command-special motor (runGiven (now (sequence .entry)))) b (now (bank .entry)) (now (bank .exit)) r) ⌝ }
+{
+    if bank.len() != SLOTS {
+        return 13;
+    }
+    if sequence.len() != 4 {
+        return 13;
+    }
+    if motor >= LANES {
+        return 12;
+    }
+    if flag(bank[FAULTED]) {
+        return 18;
+    }
+    if is_running(bank) {
+        return 19;
+    }
+    if bank[RUN] != 0 {
+        return 20;
+    }
+    queue(bank, motor, sequence);
+    0
+}
+
+// ---- telemetry requests
+
+// Requests legacy UART telemetry from exactly one motor in the next ordinary frame that starts; one that sends a special command leaves it.
+pub fn request_telemetry(bank: &mut [u16], motor: usize) -> u32
+    ensures { λ r. ⌜ ((b : Buffers) → Called (fit (now (bank .entry)) true) (Call.request-telemetry motor) b (now (bank .entry)) (now (bank .exit)) r) ⌝ }
+{
+    if bank.len() != SLOTS {
+        return 13;
+    }
+    if motor >= LANES {
+        return 12;
+    }
+    if flag(bank[FAULTED]) {
+        return 18;
+    }
+    if bank[REQUEST] != 0 {
+        return 21;
+    }
+    bank[REQUEST] = motor as u16 + 1;
+    0
+}
+
+// Withdraws a telemetry request no frame has carried yet. The ESC manager has given up on it, so it must not reach an ESC later.
+pub fn cancel_telemetry_request(bank: &mut [u16]) -> u32
+    ensures { λ r. ⌜ ((b : Buffers) → Called (fit (now (bank .entry)) true) Call.cancel-telemetry-request b (now (bank .entry)) (now (bank .exit)) r) ⌝ }
+{
+    if bank.len() != SLOTS {
+        return 13;
+    }
+    clear_request(bank);
+    0
+}
+
+// Two slots for a motor or none: 1 and the lane, or 0 and 0.
+fn put_choice(slot: u16, out: &mut [u16])
+    requires { ⌜ length (now out) ≡ 2 ⌝ }
+    ensures { λ r. ⌜ now (out .exit) ≡ motorSlots (choice slot) ⌝ }
+{
+    if slot == 0 {
+        out[0] = 0;
+        out[1] = 0;
+        return;
+    }
+    out[0] = 1;
+    out[1] = (slot - 1) % 4;
+}
+
+// Takes the lane whose telemetry bit was included in the frame started by the most recent `service` call, in two slots.
+pub fn take_telemetry_request_sent(bank: &mut [u16], out: &mut [u16]) -> u32
+    ensures { λ r. ⌜ ((b : Buffers) → Called (fit (now (bank .entry)) (long 2 (now (out .entry)))) Call.take-telemetry-request-sent b (now (bank .entry)) (now (bank .exit)) r) ⌝ }
+    ensures { λ r. ⌜ ((b : Buffers) → now (out .exit) ≡ outAfter (answerOf (fit (now (bank .entry)) (long 2 (now (out .entry)))) (stateAt (now (bank .entry)) b) Call.take-telemetry-request-sent) (now (out .entry))) ⌝ }
+{
+    if bank.len() != SLOTS {
+        return 13;
+    }
+    if out.len() != 2 {
+        return 13;
+    }
+    put_choice(bank[SENT], out);
+    clear_sent(bank);
+    0
+}

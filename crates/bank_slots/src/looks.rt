@@ -1,0 +1,307 @@
+// Ported from crates/ferrowasp-stm32-critical/src/dshot_bank.rs of Eirik2020/ferro-wasp at commit 9cb8aca1a6, Copyright (c) 2026 Kaldstrand,
+// under the Apache License, Version 2.0 (see NOTICE). Changed: ported to Rattle, on a state in lent slots, with a promise for each call, which
+// refuses slices of other lengths; the view is added.
+//
+// The calls that only look at a bank, the taking of its replies, and the view of the sequence that a lane is sending.
+
+use crate::BIDIRECTIONAL;
+use crate::BUSY_SKIPS;
+use crate::DMA_FAULTS;
+use crate::FAULTED;
+use crate::FRAME_TIMEOUTS;
+use crate::FRAMES_COMPLETED;
+use crate::FRAMES_STARTED;
+use crate::HELD;
+use crate::IN_SECOND;
+use crate::LANE_COMPLETIONS;
+use crate::LANES;
+use crate::LEASE_EXPIRIES;
+use crate::REPLIES;
+use crate::REPLY_STATS_SLOTS;
+use crate::RUN;
+use crate::SLOTS;
+use crate::SPURIOUS;
+use crate::STATS_SLOTS;
+use crate::TAKEN_SLOTS;
+use crate::VALUES;
+use crate::memory::bit;
+use crate::memory::flag;
+use crate::memory::put_word;
+use crate::memory::word_at;
+use crate::memory::zero;
+use dshot::COMPARE_DMA_SLOTS;
+use dshot_reply::DshotReply;
+use dshot_reply::DshotReplyError;
+use dshot_reply::ReplyRead;
+use dshot_reply::kind::kind_number;
+use dshot_reply::kind::reading_number;
+ghost use mathlib.Core.Path.{_≡_};
+ghost use mathlib.Core.List.{[], _∷_};
+ghost use Prim.Native.Nat.{_+_, _<_};
+ghost use lib.ListN.{length};
+ghost use Rattle.dshot_reply.specs.Answers.{replyAnswer};
+ghost use Rattle.dshot_bank_spec.specs.State.{Buffers};
+ghost use Rattle.dshot_bank_spec.specs.Calls as Call;
+ghost use Rattle.dshot_bank_spec.specs.Calls.{slotsFit};
+ghost use Rattle.bank_slots_spec.specs.Memory.{at, word, write, wordRows};
+ghost use Rattle.bank_slots_spec.specs.Layout.{reply};
+ghost use Rattle.bank_slots_spec.specs.Layout as Layout;
+ghost use Rattle.bank_slots_spec.specs.Called.{Called, fit, long, stateAt, answerOf, number};
+ghost use Rattle.bank_slots_spec.specs.Outs.{replySlots, outAfter};
+ghost use Rattle.bank_slots_spec.specs.Parts.{slotRows};
+
+// ---- flags and values
+
+// One slot, 0 or 1.
+fn put_flag(set: bool, out: &mut [u16])
+    requires { ⌜ length (now out) ≡ 1 ⌝ }
+    ensures { λ r. ⌜ now (out .exit) ≡ Layout.bit set ∷ [] ⌝ }
+{
+    out[0] = bit(set);
+}
+
+pub fn is_bidirectional(bank: &[u16], out: &mut [u16]) -> u32
+    ensures { λ r. ⌜ ((b : Buffers) → r ≡ number (answerOf (fit (now (bank .entry)) (long 1 (now (out .entry)))) (stateAt (now (bank .entry)) b) Call.is-bidirectional)) ⌝ }
+    ensures { λ r. ⌜ ((b : Buffers) → now (out .exit) ≡ outAfter (answerOf (fit (now (bank .entry)) (long 1 (now (out .entry)))) (stateAt (now (bank .entry)) b) Call.is-bidirectional) (now (out .entry))) ⌝ }
+{
+    if bank.len() != SLOTS {
+        return 13;
+    }
+    if out.len() != 1 {
+        return 13;
+    }
+    put_flag(flag(bank[BIDIRECTIONAL]), out);
+    0
+}
+
+pub fn is_faulted(bank: &[u16], out: &mut [u16]) -> u32
+    ensures { λ r. ⌜ ((b : Buffers) → r ≡ number (answerOf (fit (now (bank .entry)) (long 1 (now (out .entry)))) (stateAt (now (bank .entry)) b) Call.is-faulted)) ⌝ }
+    ensures { λ r. ⌜ ((b : Buffers) → now (out .exit) ≡ outAfter (answerOf (fit (now (bank .entry)) (long 1 (now (out .entry)))) (stateAt (now (bank .entry)) b) Call.is-faulted) (now (out .entry))) ⌝ }
+{
+    if bank.len() != SLOTS {
+        return 13;
+    }
+    if out.len() != 1 {
+        return 13;
+    }
+    put_flag(flag(bank[FAULTED]), out);
+    0
+}
+
+// Whether a special-command run is still being sent.
+pub fn command_pending(bank: &[u16], out: &mut [u16]) -> u32
+    ensures { λ r. ⌜ ((b : Buffers) → r ≡ number (answerOf (fit (now (bank .entry)) (long 1 (now (out .entry)))) (stateAt (now (bank .entry)) b) Call.command-pending)) ⌝ }
+    ensures { λ r. ⌜ ((b : Buffers) → now (out .exit) ≡ outAfter (answerOf (fit (now (bank .entry)) (long 1 (now (out .entry)))) (stateAt (now (bank .entry)) b) Call.command-pending) (now (out .entry))) ⌝ }
+{
+    if bank.len() != SLOTS {
+        return 13;
+    }
+    if out.len() != 1 {
+        return 13;
+    }
+    put_flag(flag(bank[RUN]), out);
+    0
+}
+
+pub fn requested_values(bank: &[u16], out: &mut [u16]) -> u32
+    ensures { λ r. ⌜ ((b : Buffers) → r ≡ number (answerOf (fit (now (bank .entry)) (long 4 (now (out .entry)))) (stateAt (now (bank .entry)) b) Call.requested-values)) ⌝ }
+    ensures { λ r. ⌜ ((b : Buffers) → now (out .exit) ≡ outAfter (answerOf (fit (now (bank .entry)) (long 4 (now (out .entry)))) (stateAt (now (bank .entry)) b) Call.requested-values) (now (out .entry))) ⌝ }
+{
+    if bank.len() != SLOTS {
+        return 13;
+    }
+    if out.len() != LANES {
+        return 13;
+    }
+    out[0] = bank[VALUES];
+    out[1] = bank[VALUES + 1];
+    out[2] = bank[VALUES + 2];
+    out[3] = bank[VALUES + 3];
+    0
+}
+
+// ---- counts
+
+fn copy_word(bank: &[u16], from: usize, out: &mut [u16], to: usize)
+    requires { ⌜ (from + 1 < length (now bank)) × (to + 1 < length (now out)) ⌝ }
+    ensures { λ r. ⌜ now (out .exit) ≡ write (wordRows to (word from (at (now (bank .entry))))) (now (out .entry)) ⌝ }
+{
+    put_word(out, to, word_at(bank, from));
+}
+
+// The counts, in the order of DshotStats.
+pub fn stats(bank: &[u16], out: &mut [u16]) -> u32
+    ensures { λ r. ⌜ ((b : Buffers) → r ≡ number (answerOf (fit (now (bank .entry)) (long 22 (now (out .entry)))) (stateAt (now (bank .entry)) b) Call.stats)) ⌝ }
+    ensures { λ r. ⌜ ((b : Buffers) → now (out .exit) ≡ outAfter (answerOf (fit (now (bank .entry)) (long 22 (now (out .entry)))) (stateAt (now (bank .entry)) b) Call.stats) (now (out .entry))) ⌝ }
+{
+    if bank.len() != SLOTS {
+        return 13;
+    }
+    if out.len() != STATS_SLOTS {
+        return 13;
+    }
+    copy_word(bank, FRAMES_STARTED, out, 0);
+    copy_word(bank, FRAMES_COMPLETED, out, 2);
+    copy_word(bank, LANE_COMPLETIONS, out, 4);
+    copy_word(bank, LANE_COMPLETIONS + 2, out, 6);
+    copy_word(bank, LANE_COMPLETIONS + 4, out, 8);
+    copy_word(bank, LANE_COMPLETIONS + 6, out, 10);
+    copy_word(bank, BUSY_SKIPS, out, 12);
+    copy_word(bank, LEASE_EXPIRIES, out, 14);
+    copy_word(bank, FRAME_TIMEOUTS, out, 16);
+    copy_word(bank, DMA_FAULTS, out, 18);
+    copy_word(bank, SPURIOUS, out, 20);
+    0
+}
+
+// Each count of the four lanes, in the order of DshotReplyStats.
+pub fn reply_stats(bank: &[u16], out: &mut [u16]) -> u32
+    ensures { λ r. ⌜ ((b : Buffers) → r ≡ number (answerOf (fit (now (bank .entry)) (long 24 (now (out .entry)))) (stateAt (now (bank .entry)) b) Call.reply-stats)) ⌝ }
+    ensures { λ r. ⌜ ((b : Buffers) → now (out .exit) ≡ outAfter (answerOf (fit (now (bank .entry)) (long 24 (now (out .entry)))) (stateAt (now (bank .entry)) b) Call.reply-stats) (now (out .entry))) ⌝ }
+{
+    if bank.len() != SLOTS {
+        return 13;
+    }
+    if out.len() != REPLY_STATS_SLOTS {
+        return 13;
+    }
+    copy_word(bank, REPLIES + 3, out, 0);
+    copy_word(bank, REPLIES + 12, out, 2);
+    copy_word(bank, REPLIES + 21, out, 4);
+    copy_word(bank, REPLIES + 30, out, 6);
+    copy_word(bank, REPLIES + 5, out, 8);
+    copy_word(bank, REPLIES + 14, out, 10);
+    copy_word(bank, REPLIES + 23, out, 12);
+    copy_word(bank, REPLIES + 32, out, 14);
+    copy_word(bank, REPLIES + 7, out, 16);
+    copy_word(bank, REPLIES + 16, out, 18);
+    copy_word(bank, REPLIES + 25, out, 20);
+    copy_word(bank, REPLIES + 34, out, 22);
+    0
+}
+
+// ---- replies
+
+// The reply that is stored as a kind and a number.
+fn stored(kind: u16, number: u32) -> ReplyRead
+    ensures { λ r. ⌜ replyAnswer r ≡ reply kind number ⌝ }
+{
+    let low = (number % 256) as u8;
+    match kind {
+        0 => ReplyRead::Reply(DshotReply::Erpm {
+            erpm_div100: number,
+        }),
+        1 => ReplyRead::Reply(DshotReply::Temperature { celsius: low }),
+        2 => ReplyRead::Reply(DshotReply::Voltage { quarter_volts: low }),
+        3 => ReplyRead::Reply(DshotReply::Current { amps: low }),
+        4 => ReplyRead::Reply(DshotReply::Debug {
+            channel: (number / 256 % 256) as u8,
+            value: low,
+        }),
+        5 => ReplyRead::Reply(DshotReply::StateEvent { value: low }),
+        6 => ReplyRead::Reply(DshotReply::ExtendedTelemetryEnabled),
+        8 => ReplyRead::Refused(DshotReplyError::Overlong),
+        9 => ReplyRead::Refused(DshotReplyError::InvalidSymbol),
+        10 => ReplyRead::Refused(DshotReplyError::Checksum),
+        11 => ReplyRead::Refused(DshotReplyError::ZeroPeriod),
+        _ => ReplyRead::Refused(DshotReplyError::NoReply),
+    }
+}
+
+// A lane's reply in the four slots from `k`: 0, the kind and the number, or the refusal's number and zeros.
+fn put_reply(out: &mut [u16], k: usize, read: ReplyRead)
+    requires { ⌜ k + 3 < length (now out) ⌝ }
+    ensures { λ r. ⌜ now (out .exit) ≡ write (slotRows k (replySlots (replyAnswer read))) (now (out .entry)) ⌝ }
+{
+    match read {
+        ReplyRead::Reply(reply) => {
+            out[k] = 0;
+            out[k + 1] = kind_number(reply);
+            put_word(out, k + 2, reading_number(reply));
+        }
+        ReplyRead::Refused(error) => {
+            out[k] = dshot_reply::error_number(error) as u16;
+            out[k + 1] = 0;
+            out[k + 2] = 0;
+            out[k + 3] = 0;
+        }
+    }
+}
+
+fn put_lane(bank: &[u16], from: usize, out: &mut [u16], to: usize)
+    requires { ⌜ (from + 2 < length (now bank)) × (to + 3 < length (now out)) ⌝ }
+    ensures { λ r. ⌜ now (out .exit) ≡ write (slotRows to (replySlots (reply (at (now (bank .entry)) from) (word (from + 1) (at (now (bank .entry))))))) (now (out .entry)) ⌝ }
+{
+    put_reply(out, to, stored(bank[from], word_at(bank, from + 1)));
+}
+
+// The replies decoded since the last call, once: 1 and four slots a lane, or zeros where there are none.
+pub fn take_replies(bank: &mut [u16], out: &mut [u16]) -> u32
+    ensures { λ r. ⌜ ((b : Buffers) → Called (fit (now (bank .entry)) (long 17 (now (out .entry)))) Call.take-replies b (now (bank .entry)) (now (bank .exit)) r) ⌝ }
+    ensures { λ r. ⌜ ((b : Buffers) → now (out .exit) ≡ outAfter (answerOf (fit (now (bank .entry)) (long 17 (now (out .entry)))) (stateAt (now (bank .entry)) b) Call.take-replies) (now (out .entry))) ⌝ }
+{
+    if bank.len() != SLOTS {
+        return 13;
+    }
+    if out.len() != TAKEN_SLOTS {
+        return 13;
+    }
+    if !flag(bank[HELD]) {
+        zero(out);
+        return 0;
+    }
+    out[0] = 1;
+    put_lane(bank, REPLIES, out, 1);
+    put_lane(bank, REPLIES + 9, out, 5);
+    put_lane(bank, REPLIES + 18, out, 9);
+    put_lane(bank, REPLIES + 27, out, 13);
+    bank[HELD] = 0;
+    0
+}
+
+// ---- the view
+
+fn copy(part: &[u16], out: &mut [u16])
+    requires { ⌜ (length (now part) ≡ 16) × (length (now out) ≡ 16) ⌝ }
+    ensures { λ r. ⌜ now (out .exit) ≡ now (part .entry) ⌝ }
+{
+    for i in 0..COMPARE_DMA_SLOTS {
+        out[i] = part[i];
+    }
+}
+
+fn lengths_fit(first: usize, second: usize) -> bool
+    ensures { λ r. ⌜ r ≡ slotsFit 4 first second ⌝ }
+{
+    if first != COMPARE_DMA_SLOTS * LANES {
+        return false;
+    }
+    second == COMPARE_DMA_SLOTS * LANES
+}
+
+// The 16 slots of the sequence that a lane is sending, out of the buffer that its mark names.
+pub fn sending(bank: &[u16], first: &[u16], second: &[u16], motor: usize, out: &mut [u16]) -> u32
+    ensures { λ r. ⌜ r ≡ number (answerOf (fit (now (bank .entry)) (long 16 (now (out .entry)))) (stateAt (now (bank .entry)) (record { first = now (first .entry); second = now (second .entry) })) (Call.sending motor)) ⌝ }
+    ensures { λ r. ⌜ now (out .exit) ≡ outAfter (answerOf (fit (now (bank .entry)) (long 16 (now (out .entry)))) (stateAt (now (bank .entry)) (record { first = now (first .entry); second = now (second .entry) })) (Call.sending motor)) (now (out .entry)) ⌝ }
+{
+    if bank.len() != SLOTS {
+        return 13;
+    }
+    if out.len() != COMPARE_DMA_SLOTS {
+        return 13;
+    }
+    if !lengths_fit(first.len(), second.len()) {
+        return 13;
+    }
+    if motor >= LANES {
+        return 12;
+    }
+    let from = COMPARE_DMA_SLOTS * motor;
+    let to = from + COMPARE_DMA_SLOTS;
+    if flag(bank[IN_SECOND + motor]) {
+        copy(&second[from..to], out);
+    } else {
+        copy(&first[from..to], out);
+    }
+    0
+}

@@ -1,0 +1,408 @@
+// Ported from crates/ferrowasp-stm32-critical/src/dshot_bank.rs of Eirik2020/ferro-wasp at commit 9cb8aca1a6, Copyright (c) 2026 Kaldstrand,
+// under the Apache License, Version 2.0 (see NOTICE). Changed: ported to Rattle, on a state in lent slots; two lent buffers and a mark per lane
+// stand for the exchanged buffers, so that no spare can be missing.
+//
+// Sending a frame set.
+
+use crate::BIDIRECTIONAL;
+use crate::BUSY;
+use crate::COMPLETION;
+use crate::FRAMES_STARTED;
+use crate::IN_SECOND;
+use crate::LANES;
+use crate::REQUEST;
+use crate::RUN;
+use crate::SENT;
+use crate::STARTED;
+use crate::VALUES;
+use crate::commands::any_above;
+use crate::memory::bit;
+use crate::memory::bump;
+use crate::memory::flag;
+use crate::memory::put_long;
+use crate::memory::put_word;
+use crate::steps::latch_fault;
+use dshot::ChecksumKind;
+use dshot::CommandValue;
+use dshot::DshotCommandSequence;
+use dshot::DshotTiming;
+use dshot::MotorValues;
+use dshot::TelemetryLane;
+use dshot_bank::replies::LaneFlags;
+use dshot_bank::send::encode_spares;
+ghost use mathlib.Core.Path.{_≡_};
+ghost use mathlib.Core.Bool.{not, Bool};
+ghost use mathlib.Core.List.{[], _∷_, _++_};
+ghost use mathlib.Core.Option.{none};
+ghost use Prim.Native.Nat.{_+_, _*_, _<_};
+ghost use lib.ListN.{length, set, replicate};
+ghost use Rattle.dshot_reply_spec.specs.Answer.{pick};
+ghost use Rattle.dshot.specs.Answers.{kindOf, laneOf, timingOf, runOf};
+ghost use Rattle.dshot_bank_spec.specs.Lanes.{position};
+ghost use Rattle.dshot_bank_spec.specs.State.{Core, Bank, Buffers};
+ghost use Rattle.dshot_bank_spec.specs.Order.{refusedOrders};
+ghost use Rattle.dshot_bank_spec.specs.Commands.{nextOfRun, nextCommandFrame};
+ghost use Rattle.dshot_bank_spec.specs.With.{withCommandSequence};
+ghost use Rattle.dshot_bank_spec.specs.Send.{kindSent, asLane, exchangeRefused, frameStarted};
+ghost use Rattle.dshot_bank_spec.specs.Service as Spec;
+ghost use Rattle.bank_slots_spec.specs.Memory.{_holds_, at, write};
+ghost use Rattle.bank_slots_spec.specs.Layout.{slots, load};
+ghost use Rattle.bank_slots_spec.specs.Layout as Layout;
+ghost use Rattle.bank_slots_spec.specs.Moves.{Moves, onCore};
+ghost use Rattle.bank_slots_spec.specs.Handles.{Serves};
+ghost use Rattle.bank_slots_spec.specs.Outs.{codes, taken};
+ghost use Rattle.bank_slots_spec.specs.Parts.{queued, runStepped, marksTurned, carriedBy, requestCarried, inFlight};
+ghost use Rattle.bank_slots.specs.Frames.{motorCommandOf, OnLane, Sets};
+
+// The next special-command frame.
+pub(crate) enum NextFrame {
+    None,
+    Command(usize, u16),
+}
+
+// What is sent to each lane, and whether it is an ordinary frame, which carries the pending telemetry request.
+pub(crate) struct FrameSet {
+    pub values: MotorValues,
+    pub telemetry_lane: TelemetryLane,
+    pub ordinary: bool,
+}
+
+// The events of a service that sends.
+const FRAME_STARTED: u16 = 0;
+
+const LEASE_EXPIRED: u16 = 2;
+
+const FAULT: u16 = 3;
+
+// The orders of a frame set that starts: every buffer exchanged, every stream enabled, and the timers. All DMA streams are enabled before any
+// timer DMA request is opened.
+const START_ORDERS: [u16; 9] = [8, 9, 10, 11, 16, 17, 18, 19, 24];
+
+// ---- the run of commands
+
+fn clear_run(state: &mut [u16])
+    requires { ⌜ length (now state) ≡ slots ⌝ }
+    ensures { λ r. ⌜ Moves (onCore (withCommandSequence none)) (now (state .entry)) (now (state .exit)) ⌝ }
+{
+    state[RUN] = 0;
+    state[RUN + 1] = 0;
+    state[RUN + 2] = 0;
+    state[RUN + 3] = 0;
+    state[RUN + 4] = 0;
+}
+
+fn put_run(state: &mut [u16], motor: usize, run: DshotCommandSequence)
+    requires { ⌜ (length (now state) ≡ slots) × (motor < 4) ⌝ }
+    ensures { λ r. ⌜ Moves (onCore (queued motor (runOf run))) (now (state .entry)) (now (state .exit)) ⌝ }
+{
+    let commands = run.commands;
+    state[RUN] = motor as u16 + 1;
+    state[RUN + 1] = commands[0];
+    state[RUN + 2] = commands[1];
+    state[RUN + 3] = run.index as u16;
+    state[RUN + 4] = run.repeats_left as u16;
+}
+
+// The next command of a run, which is stepped; a spent run is cleared.
+fn step_run(state: &mut [u16]) -> NextFrame
+    requires { ⌜ (length (now state) ≡ slots) × (at (now state) Layout.RUN ≡ 0 → ⊥) ⌝ }
+    ensures { λ r. ⌜ OnLane r ⌝ }
+    ensures { λ r. ⌜ motorCommandOf r ≡ nextOfRun (load (now (state .entry)) .core .commandSequence) .command ⌝ }
+    ensures { λ r. ⌜ Moves (onCore (λ (c : Core). withCommandSequence (nextOfRun (c .commandSequence) .left) c)) (now (state .entry)) (now (state .exit)) ⌝ }
+{
+    let motor = ((state[RUN] - 1) % 4) as usize;
+    let run = DshotCommandSequence {
+        commands: [state[RUN + 1], state[RUN + 2]],
+        index: (state[RUN + 3] % 256) as u8,
+        repeats_left: (state[RUN + 4] % 256) as u8,
+    };
+    let next = run.next_value();
+    let left = next.sequence;
+    let value = next.value;
+    match value {
+        CommandValue::Value(command) => {
+            put_run(state, motor, left);
+            NextFrame::Command(motor, command)
+        }
+        CommandValue::None => {
+            clear_run(state);
+            NextFrame::None
+        }
+    }
+}
+
+// The next special-command frame; none when there is none or a throttle demand has cancelled it.
+fn next_command_frame(state: &mut [u16]) -> NextFrame
+    requires { ⌜ length (now state) ≡ slots ⌝ }
+    ensures { λ r. ⌜ OnLane r ⌝ }
+    ensures { λ r. ⌜ motorCommandOf r ≡ nextCommandFrame (load (now (state .entry)) .core) .command ⌝ }
+    ensures { λ r. ⌜ Moves (onCore runStepped) (now (state .entry)) (now (state .exit)) ⌝ }
+{
+    if any_above(&state[VALUES..VALUES + LANES], 0) {
+        clear_run(state);
+        return NextFrame::None;
+    }
+    if state[RUN] == 0 {
+        return NextFrame::None;
+    }
+    step_run(state)
+}
+
+// ---- what is sent
+
+fn values_at(state: &[u16]) -> MotorValues
+    requires { ⌜ length (now state) ≡ slots ⌝ }
+    ensures { λ r. ⌜ r ≡ load (now (state .entry)) .core .demand .requestedValues ⌝ }
+{
+    [
+        state[VALUES],
+        state[VALUES + 1],
+        state[VALUES + 2],
+        state[VALUES + 3],
+    ]
+}
+
+// The values with one lane's command.
+fn one_lane(motor: usize, command: u16) -> MotorValues
+    requires { ⌜ motor < 4 ⌝ }
+    ensures { λ r. ⌜ r ≡ set (replicate 4 0) motor command ⌝ }
+{
+    match motor {
+        0 => [command, 0, 0, 0],
+        1 => [0, command, 0, 0],
+        2 => [0, 0, command, 0],
+        _ => [0, 0, 0, command],
+    }
+}
+
+fn request_lane(slot: u16) -> TelemetryLane
+    ensures { λ r. ⌜ laneOf r ≡ asLane (Layout.choice slot) ⌝ }
+{
+    if slot == 0 {
+        return TelemetryLane::None;
+    }
+    TelemetryLane::Lane(((slot - 1) % 4) as usize)
+}
+
+// A special command needs the telemetry bit on its own lane, so a pending telemetry request waits for the next ordinary frame.
+fn frame_set(state: &[u16], command: NextFrame) -> FrameSet
+    requires { ⌜ (length (now state) ≡ slots) × OnLane command ⌝ }
+    ensures { λ r. ⌜ Sets r (load (now (state .entry)) .core) (motorCommandOf command) ⌝ }
+{
+    match command {
+        NextFrame::Command(motor, value) => FrameSet {
+            values: one_lane(motor, value),
+            telemetry_lane: TelemetryLane::Lane(motor),
+            ordinary: false,
+        },
+        NextFrame::None => FrameSet {
+            values: values_at(state),
+            telemetry_lane: request_lane(state[REQUEST]),
+            ordinary: true,
+        },
+    }
+}
+
+fn kind(state: &[u16]) -> ChecksumKind
+    requires { ⌜ length (now state) ≡ slots ⌝ }
+    ensures { λ r. ⌜ kindOf r ≡ kindSent (load (now (state .entry)) .core) ⌝ }
+{
+    if flag(state[BIDIRECTIONAL]) {
+        ChecksumKind::Inverted
+    } else {
+        ChecksumKind::Plain
+    }
+}
+
+fn timing_at(state: &[u16]) -> DshotTiming
+    requires { ⌜ length (now state) ≡ slots ⌝ }
+    ensures { λ r. ⌜ timingOf r ≡ load (now (state .entry)) .core .timing ⌝ }
+{
+    DshotTiming {
+        arr: state[0],
+        zero_high: state[1],
+        one_high: state[2],
+        reply_sample_arr: state[3],
+    }
+}
+
+fn marks_at(state: &[u16]) -> LaneFlags
+    requires { ⌜ length (now state) ≡ slots ⌝ }
+    ensures { λ r. ⌜ r ≡ load (now (state .entry)) .core .frame .inSecond ⌝ }
+{
+    [
+        flag(state[IN_SECOND]),
+        flag(state[IN_SECOND + 1]),
+        flag(state[IN_SECOND + 2]),
+        flag(state[IN_SECOND + 3]),
+    ]
+}
+
+// ---- the exchange
+
+// How many lanes took their buffer before the first that did not.
+fn lanes_taken(lanes: &[u16]) -> usize
+    requires { ⌜ length (now lanes) ≡ 12 ⌝ }
+    ensures { λ r. ⌜ r ≡ position not (taken (now (lanes .entry))) ⌝ }
+{
+    if !flag(lanes[0]) {
+        return 0;
+    }
+    if !flag(lanes[1]) {
+        return 1;
+    }
+    if !flag(lanes[2]) {
+        return 2;
+    }
+    if !flag(lanes[3]) {
+        return 3;
+    }
+    LANES
+}
+
+fn turn_mark(state: &mut [u16], k: usize, turned: bool)
+    requires { ⌜ k < length (now state) ⌝ }
+    ensures { λ r. ⌜ now (state .exit) ≡ pick turned (write ((k holds Layout.bit (not (Layout.flag (at (now (state .entry)) k)))) ∷ []) (now (state .entry))) (now (state .entry)) ⌝ }
+{
+    if turned {
+        let mark = flag(state[k]);
+        state[k] = bit(!mark);
+    }
+}
+
+// The marks of the first lanes turned: what they sent is spare, and their spare is sent.
+fn turn_marks(state: &mut [u16], turned: usize)
+    requires { ⌜ length (now state) ≡ slots ⌝ }
+    ensures { λ r. ⌜ Moves (onCore (marksTurned turned)) (now (state .entry)) (now (state .exit)) ⌝ }
+{
+    turn_mark(state, IN_SECOND, 0 < turned);
+    turn_mark(state, IN_SECOND + 1, 1 < turned);
+    turn_mark(state, IN_SECOND + 2, 2 < turned);
+    turn_mark(state, IN_SECOND + 3, 3 < turned);
+}
+
+// A lane refuses its buffer: those before it have turned.
+fn exchange_refused(state: &mut [u16], lane: usize)
+    requires { ⌜ length (now state) ≡ slots ⌝ }
+    ensures { λ r. ⌜ Moves (onCore (λ (c : Core). exchangeRefused 4 lane c .core)) (now (state .entry)) (now (state .exit)) ⌝ }
+{
+    turn_marks(state, lane);
+    latch_fault(state, false);
+}
+
+// The orders of an exchange that is refused at a lane: the exchanges up to it, the outputs low, and every stream paused.
+fn refused_orders(lane: usize) -> [u16; 9]
+    requires { ⌜ lane < 4 ⌝ }
+    ensures { λ r. ⌜ r ≡ codes 9 (refusedOrders 4 lane) ⌝ }
+{
+    match lane {
+        0 => [8, 40, 48, 49, 50, 51, 0, 0, 0],
+        1 => [8, 9, 40, 48, 49, 50, 51, 0, 0],
+        2 => [8, 9, 10, 40, 48, 49, 50, 51, 0],
+        _ => [8, 9, 10, 11, 40, 48, 49, 50, 51],
+    }
+}
+
+// A frame set in flight, but for what it carries.
+fn fly(state: &mut [u16], now_ms: u64)
+    requires { ⌜ length (now state) ≡ slots ⌝ }
+    ensures { λ r. ⌜ Moves (onCore (inFlight «now_ms»)) (now (state .entry)) (now (state .exit)) ⌝ }
+{
+    put_long(state, STARTED, now_ms);
+    put_word(state, COMPLETION, 0);
+    state[BUSY] = 1;
+    bump(state, FRAMES_STARTED);
+}
+
+// A request that the frame carries is sent.
+fn carry(state: &mut [u16], ordinary: bool)
+    requires { ⌜ length (now state) ≡ slots ⌝ }
+    ensures { λ r. ⌜ Moves (onCore (requestCarried ordinary)) (now (state .entry)) (now (state .exit)) ⌝ }
+{
+    if !ordinary {
+        return;
+    }
+    let request = state[REQUEST];
+    if request == 0 {
+        return;
+    }
+    state[REQUEST] = 0;
+    state[SENT] = request;
+}
+
+fn frame_started(state: &mut [u16], now_ms: u64, ordinary: bool)
+    requires { ⌜ length (now state) ≡ slots ⌝ }
+    ensures { λ r. ⌜ Moves (onCore (λ (c : Core). frameStarted 4 «now_ms» (carriedBy ordinary c) c)) (now (state .entry)) (now (state .exit)) ⌝ }
+{
+    turn_marks(state, LANES);
+    fly(state, now_ms);
+    carry(state, ordinary);
+}
+
+// ---- the answer of a service
+
+// The event, nine slots for orders, of which `count` are given, and the first duties.
+pub(crate) fn tell(out: &mut [u16], event: u16, count: u16, codes: [u16; 9], duties: MotorValues)
+    requires { ⌜ length (now out) ≡ 15 ⌝ }
+    ensures { λ r. ⌜ now (out .exit) ≡ event ∷ count ∷ (codes ++ duties) ⌝ }
+{
+    out[0] = event;
+    out[1] = count;
+    out[2] = codes[0];
+    out[3] = codes[1];
+    out[4] = codes[2];
+    out[5] = codes[3];
+    out[6] = codes[4];
+    out[7] = codes[5];
+    out[8] = codes[6];
+    out[9] = codes[7];
+    out[10] = codes[8];
+    out[11] = duties[0];
+    out[12] = duties[1];
+    out[13] = duties[2];
+    out[14] = duties[3];
+}
+
+fn sent_event(lease_expired: bool) -> u16
+    ensures { λ r. ⌜ r ≡ pick «lease_expired» 2 0 ⌝ }
+{
+    if lease_expired {
+        LEASE_EXPIRED
+    } else {
+        FRAME_STARTED
+    }
+}
+
+pub(crate) fn send(
+    state: &mut [u16],
+    now_ms: u64,
+    lease_expired: bool,
+    lanes: &[u16],
+    first: &mut [u16],
+    second: &mut [u16],
+    out: &mut [u16],
+)
+    requires { ⌜ (length (now state) ≡ slots) × (length (now lanes) ≡ 12) × (length (now first) ≡ 16 * 4) × (length (now second) ≡ 16 * 4) × (length (now out) ≡ 15) ⌝ }
+    ensures { λ r. ⌜ Serves (λ (k : Bank) (b : Buffers). Spec.sending 4 «now_ms» (taken (now (lanes .entry))) [] [] [] [] b «lease_expired» (k .core) (k .replies)) (record { first = now (first .entry); second = now (second .entry) }) (record { first = now (first .exit); second = now (second .exit) }) (now (state .entry)) (now (state .exit)) (now (out .exit)) ⌝ }
+{
+    let next = next_command_frame(state);
+    let set = frame_set(state, next);
+    let values = set.values;
+    let lane = set.telemetry_lane;
+    let packets = dshot::packets_of_kind(kind(state), values, lane);
+    let duties = encode_spares(first, second, marks_at(state), packets, timing_at(state));
+    let refusing = lanes_taken(lanes);
+    if refusing < LANES {
+        exchange_refused(state, refusing);
+        tell(
+            out,
+            FAULT,
+            refusing as u16 + 6,
+            refused_orders(refusing),
+            [0; LANES],
+        );
+        return;
+    }
+    frame_started(state, now_ms, set.ordinary);
+    tell(out, sent_event(lease_expired), 9, START_ORDERS, duties);
+}

@@ -1,0 +1,108 @@
+// Ported from crates/ferrowasp-stm32-critical/src/dshot_bank.rs of Eirik2020/ferro-wasp at commit 9cb8aca1a6, Copyright (c) 2026 Kaldstrand,
+// under the Apache License, Version 2.0 (see NOTICE). Changed: ported to Rattle, on a state in lent slots, with a promise for each step.
+//
+// The steps on a bank's state that several calls share: a stop, a cleared request, and a latched fault.
+
+use crate::BUSY;
+use crate::DMA_FAULTS;
+use crate::FAULTED;
+use crate::LEASE_OVER;
+use crate::RECEIVING;
+use crate::REQUEST;
+use crate::RUN;
+use crate::SENT;
+use crate::SPURIOUS;
+use crate::VALUES;
+use crate::WAITING;
+use crate::memory::bump;
+ghost use mathlib.Core.Path.{_≡_};
+ghost use Prim.Native.Nat.{_+_, _<_};
+ghost use lib.ListN.{length};
+ghost use Rattle.dshot_reply_spec.specs.Answer.{pick};
+ghost use Rattle.dshot_bank_spec.specs.Commands.{commandStop, clearRequestSent, cancelTelemetryRequest};
+ghost use Rattle.dshot_bank_spec.specs.Send.{latchFault};
+ghost use Rattle.bank_slots_spec.specs.Layout.{slots};
+ghost use Rattle.bank_slots_spec.specs.Moves.{Moves, onCore};
+ghost use Rattle.bank_slots_spec.specs.Parts.{bumped, faultCounted, flagsLatched, requestsCleared};
+
+pub(crate) fn clear_sent(state: &mut [u16])
+    requires { ⌜ length (now state) ≡ slots ⌝ }
+    ensures { λ r. ⌜ Moves (onCore clearRequestSent) (now (state .entry)) (now (state .exit)) ⌝ }
+{
+    state[SENT] = 0;
+}
+
+pub(crate) fn clear_request(state: &mut [u16])
+    requires { ⌜ length (now state) ≡ slots ⌝ }
+    ensures { λ r. ⌜ Moves (onCore cancelTelemetryRequest) (now (state .entry)) (now (state .exit)) ⌝ }
+{
+    state[REQUEST] = 0;
+}
+
+pub(crate) fn stop(state: &mut [u16])
+    requires { ⌜ length (now state) ≡ slots ⌝ }
+    ensures { λ r. ⌜ Moves (onCore (commandStop 4)) (now (state .entry)) (now (state .exit)) ⌝ }
+{
+    state[VALUES] = 0;
+    state[VALUES + 1] = 0;
+    state[VALUES + 2] = 0;
+    state[VALUES + 3] = 0;
+    state[LEASE_OVER] = 0;
+    state[LEASE_OVER + 1] = 0;
+    state[LEASE_OVER + 2] = 0;
+    state[LEASE_OVER + 3] = 0;
+}
+
+// ---- a fault
+
+pub(crate) fn bump_if(state: &mut [u16], counted: bool, k: usize)
+    requires { ⌜ k + 1 < length (now state) ⌝ }
+    ensures { λ r. ⌜ now (state .exit) ≡ pick counted (bumped k (now (state .entry))) (now (state .entry)) ⌝ }
+{
+    if counted {
+        bump(state, k);
+    }
+}
+
+fn count_fault(state: &mut [u16], spurious: bool)
+    requires { ⌜ length (now state) ≡ slots ⌝ }
+    ensures { λ r. ⌜ Moves (onCore (faultCounted spurious)) (now (state .entry)) (now (state .exit)) ⌝ }
+{
+    let first = state[FAULTED] == 0;
+    bump_if(state, first, DMA_FAULTS);
+    bump_if(state, spurious, SPURIOUS);
+}
+
+fn latch_flags(state: &mut [u16])
+    requires { ⌜ length (now state) ≡ slots ⌝ }
+    ensures { λ r. ⌜ Moves (onCore flagsLatched) (now (state .entry)) (now (state .exit)) ⌝ }
+{
+    state[FAULTED] = 1;
+    state[BUSY] = 0;
+    state[RECEIVING] = 0;
+    state[WAITING] = 0;
+}
+
+fn clear_requests(state: &mut [u16])
+    requires { ⌜ length (now state) ≡ slots ⌝ }
+    ensures { λ r. ⌜ Moves (onCore requestsCleared) (now (state .entry)) (now (state .exit)) ⌝ }
+{
+    state[REQUEST] = 0;
+    state[SENT] = 0;
+    state[RUN] = 0;
+    state[RUN + 1] = 0;
+    state[RUN + 2] = 0;
+    state[RUN + 3] = 0;
+    state[RUN + 4] = 0;
+}
+
+// The orders of a fault are for the caller.
+pub(crate) fn latch_fault(state: &mut [u16], spurious: bool)
+    requires { ⌜ length (now state) ≡ slots ⌝ }
+    ensures { λ r. ⌜ Moves (onCore (latchFault 4 spurious)) (now (state .entry)) (now (state .exit)) ⌝ }
+{
+    count_fault(state, spurious);
+    latch_flags(state);
+    clear_requests(state);
+    stop(state);
+}

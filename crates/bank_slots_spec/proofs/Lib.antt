@@ -1,0 +1,17 @@
+pub mod MemoryLaws
+pub mod FillLaws
+pub mod MoveLaws
+pub mod FaultMoves
+pub mod CommandMoves
+pub mod InterruptMoves
+pub mod ReplyMoves
+pub mod SendMoves
+pub mod ServiceMoves
+pub mod CalledLaws
+pub mod CommandCalls
+pub mod LookLaws
+pub mod Counted
+pub mod FieldLaws
+pub mod Stored
+pub mod CalledStored
+pub mod SlotsIsolated

@@ -1,0 +1,289 @@
+-- What the calls that only look at the bank in the slots owe, and the taking of its replies: where a slice has another length, and where all fit.
+-- Assumes nothing.
+use mathlib.Core.Path.{_≡_, _∙_, refl, sym, ap}
+use mathlib.Core.Bool.{Bool, true, false, not}
+use mathlib.Core.List.{List, [], _∷_, _++_, append-assoc}
+use mathlib.Core.Option.{Option, none, some}
+use Prim.Native.Nat.{ℕ, zero, suc, _+_, _*_, _/_, _%_, _<_, _≤_, zero-le}
+use native.Mathlib.Nat.{le-antisymm, le-of-suc-le-suc}
+use native.Mathlib.Omega.{arith}
+use lib.Dec.{eqb, ltb}
+use lib.ListN.{length, getD, set, take, drop, replicate, length-set}
+use lib.Seq.{take-all}
+use borrow.Author.Tests.{ltb-true, ne-eqb}
+use Rattle.dshot_reply_spec.specs.Answer.{pick, given, refused, noReply}
+use Rattle.dshot_reply_spec.specs.Answer as Reply
+use Rattle.dshot_reply_spec.specs.Value.{Reading}
+use Rattle.dshot_reply_spec.specs.Kind.{kindNumber, readingNumber}
+use Rattle.dshot_bank_spec.specs.Lanes.{if_then_else_, isSome}
+use Rattle.dshot_bank_spec.specs.State.{Core, Buffers}
+use Rattle.dshot_bank_spec.specs.With.{withRepliesHeld, withFrame}
+use Rattle.dshot_bank_spec.specs.Calls.{Call, Answer, is-bidirectional, is-faulted, command-pending, requested-values, stats, reply-stats, take-replies, values, counts, reply-counts, replied, repliesTaken, sequenceSent, replyStatsOf, repliesOf, portRefusal, step}
+use Rattle.dshot_bank_spec.specs.Calls as Call
+use Rattle.dshot_bank_spec.proofs.LaneLaws.{off}
+use Rattle.bank_slots_spec.specs.Memory.{_holds_, at, write, word, wordRows}
+use Rattle.bank_slots_spec.specs.Layout.{flag, bit, reply, four, statsAt, laneAt, bankAt, load, VALUES, RUN, FAULTED, BIDIRECTIONAL, HELD, IN-SECOND, FRAMES-STARTED, FRAMES-COMPLETED, LANE-COMPLETIONS, BUSY-SKIPS, LEASE-EXPIRIES, FRAME-TIMEOUTS, DMA-FAULTS, SPURIOUS, REPLIES}
+use Rattle.bank_slots_spec.specs.Layout as Layout
+use Rattle.bank_slots_spec.specs.Moves.{Moves, onCore}
+use Rattle.bank_slots_spec.specs.Called.{Called, fit, long, number, stateAt, answerOf}
+use Rattle.bank_slots_spec.specs.Outs.{countSlots, replyCountSlots, replySlots, takenSlots, slotsOf, outAfter}
+use Rattle.bank_slots_spec.specs.Parts.{slotRows}
+use Rattle.bank_slots_spec.proofs.MemoryLaws.{length-write}
+use Rattle.bank_slots_spec.proofs.FillLaws.{filled-to, filled}
+use Rattle.bank_slots_spec.proofs.MoveLaws.{moves-write, stays}
+use Rattle.bank_slots_spec.proofs.CalledLaws.{state-short, answer-unfit, answer-fits, called-unfit, called-done, out-kept, out-filled}
+use Rattle.bank_slots_spec.proofs.CommandCalls.{other-long, both-fit}
+
+-- ---- any look
+
+module _ (call : Call) (k : ℕ) (xs out : List ℕ) where
+  -- with some buffers: what is answered, and what the lent slots hold then
+  abbrev pub LooksAt : Buffers → List ℕ → ℕ → Type 0
+  LooksAt b after r =
+      (r ≡ number (answerOf (fit xs (long k out)) (stateAt xs b) call))
+      × (after ≡ outAfter (answerOf (fit xs (long k out)) (stateAt xs b) call) out)
+
+  -- with any
+  abbrev pub Looks : List ℕ → ℕ → Type 0
+  Looks after r =
+      ((b : Buffers) → r ≡ number (answerOf (fit xs (long k out)) (stateAt xs b) call))
+      × ((b : Buffers) → after ≡ outAfter (answerOf (fit xs (long k out)) (stateAt xs b) call) out)
+
+  any-buffers : {after : List ℕ} {r : ℕ} → ((b : Buffers) → LooksAt b after r) → Looks after r
+  any-buffers h = (λ b. h b .0, λ b. h b .1)
+
+  refuses : (b : Buffers) (n : ℕ) → answerOf (fit xs (long k out)) (stateAt xs b) call ≡ Call.refused n → (n ≡ 0 → ⊥) → LooksAt b out n
+  refuses b n e z = (sym (ap number e), out-kept n out e z)
+
+  -- a state of another length
+  pub unfit-at : (length xs ≡ Layout.slots → ⊥) → (b : Buffers) → LooksAt b out 13
+  unfit-at h b = refuses b 13 (answer-unfit call (stateAt xs b) (state-short xs (long k out) h)) (λ z. omega arith)
+
+  pub look-unfit : (length xs ≡ Layout.slots → ⊥) → Looks out 13
+  look-unfit h = any-buffers (unfit-at h)
+
+  module _ (n : length xs ≡ Layout.slots) where
+    -- lent slots of another length
+    pub short-at : (length out ≡ k → ⊥) → (b : Buffers) → LooksAt b out 13
+    short-at h b = refuses b 13 (answer-unfit call (stateAt xs b) (other-long xs out k n h)) (λ z. omega arith)
+
+    pub look-short : (length out ≡ k → ⊥) → Looks out 13
+    look-short h = any-buffers (short-at h)
+
+    module _ (l : length out ≡ k) where
+      -- a refusal of the step
+      pub refused-at : (b : Buffers) {m : ℕ} → step 4 (stateAt xs b) call .answer ≡ Call.refused m → (m ≡ 0 → ⊥) → LooksAt b out m
+      refused-at b {m} e z = refuses b m (answer-fits call (stateAt xs b) (both-fit xs out k n l) ∙ e) z
+
+      -- its answer
+      pub told-at : (b : Buffers) {after : List ℕ} (a : Answer) → step 4 (stateAt xs b) call .answer ≡ a → number a ≡ 0 → after ≡ slotsOf a → LooksAt b after 0
+      told-at b a e z h =
+          let q = answer-fits call (stateAt xs b) (both-fit xs out k n l) ∙ e in
+          (sym (ap number q ∙ z), out-filled out q z h)
+
+      pub look-told : {after : List ℕ} (a : Answer) → ((b : Buffers) → step 4 (stateAt xs b) call .answer ≡ a) → number a ≡ 0 → after ≡ slotsOf a → Looks after 0
+      look-told a e z h = any-buffers (λ b. told-at b a (e b) z h)
+
+-- ---- flags, values and counts
+
+-- a run is there unless its slot is 0
+run-there : {A : Type 0} (none-there : Bool) (run : A) → isSome (pick none-there none (some run)) ≡ not none-there
+run-there true run = refl
+run-there false run = refl
+
+module _ (xs out : List ℕ) (n : length xs ≡ Layout.slots) where
+  module _ (l : length out ≡ 1) {set : Bool} {after : List ℕ} (h : after ≡ bit set ∷ []) where
+    pub bidirectional-told : set ≡ flag (at xs BIDIRECTIONAL) → Looks is-bidirectional 1 xs out after 0
+    unfolding step portRefusal load
+    bidirectional-told e = look-told is-bidirectional 1 xs out n l (Call.flag set) (λ b. ap Call.flag (sym e)) refl h
+
+    pub faulted-told : set ≡ flag (at xs FAULTED) → Looks is-faulted 1 xs out after 0
+    unfolding step portRefusal load
+    faulted-told e = look-told is-faulted 1 xs out n l (Call.flag set) (λ b. ap Call.flag (sym e)) refl h
+
+    pub pending-told : set ≡ flag (at xs RUN) → Looks command-pending 1 xs out after 0
+    unfolding step portRefusal load
+    pending-told e = look-told command-pending 1 xs out n l (Call.flag set) (λ b. ap Call.flag (run-there (eqb (at xs RUN) 0) _ ∙ sym e)) refl h
+
+  pub values-told : length out ≡ 4 → Looks requested-values 4 xs out (write (slotRows 0 (four (λ (i : ℕ). at xs (VALUES + i)))) out) 0
+  unfolding step portRefusal load
+  values-told l = let v = four (λ (i : ℕ). at xs (VALUES + i)) in look-told requested-values 4 xs out n l (values v) (λ b. refl) refl (filled v out l)
+
+  -- a word copied from a slot to a slot
+  abbrev pub copied : ℕ → ℕ → List ℕ → List ℕ
+  copied from to before = write (wordRows to (word from (at xs))) before
+
+  -- the counts, one after another
+  pub stats-told : length out ≡ 22 → {a b c d e f g h i j k : List ℕ}
+      → a ≡ copied FRAMES-STARTED 0 out
+      → b ≡ copied FRAMES-COMPLETED 2 a
+      → c ≡ copied LANE-COMPLETIONS 4 b
+      → d ≡ copied (LANE-COMPLETIONS + 2) 6 c
+      → e ≡ copied (LANE-COMPLETIONS + 4) 8 d
+      → f ≡ copied (LANE-COMPLETIONS + 6) 10 e
+      → g ≡ copied BUSY-SKIPS 12 f
+      → h ≡ copied LEASE-EXPIRIES 14 g
+      → i ≡ copied FRAME-TIMEOUTS 16 h
+      → j ≡ copied DMA-FAULTS 18 i
+      → k ≡ copied SPURIOUS 20 j
+      → Looks stats 22 xs out k 0
+  unfolding step portRefusal load
+  stats-told l a b c d e f g h i j k =
+      let s = statsAt (at xs) in
+      let six = f ∙ ap (copied 49 10) (e ∙ ap (copied 47 8) (d ∙ ap (copied 45 6) (c ∙ ap (copied 43 4) (b ∙ ap (copied 41 2) a)))) in
+      let all = k ∙ ap (copied 59 20) (j ∙ ap (copied 57 18) (i ∙ ap (copied 55 16) (h ∙ ap (copied 53 14) (g ∙ ap (copied 51 12) six)))) in
+      look-told stats 22 xs out n l (counts s) (λ t. refl) refl (all ∙ filled (countSlots s) out l)
+
+  -- each count of the four lanes
+  pub reply-stats-told : length out ≡ 24 → {a b c d e f g h i j k m : List ℕ}
+      → a ≡ copied (REPLIES + 3) 0 out
+      → b ≡ copied (REPLIES + 12) 2 a
+      → c ≡ copied (REPLIES + 21) 4 b
+      → d ≡ copied (REPLIES + 30) 6 c
+      → e ≡ copied (REPLIES + 5) 8 d
+      → f ≡ copied (REPLIES + 14) 10 e
+      → g ≡ copied (REPLIES + 23) 12 f
+      → h ≡ copied (REPLIES + 32) 14 g
+      → i ≡ copied (REPLIES + 7) 16 h
+      → j ≡ copied (REPLIES + 16) 18 i
+      → k ≡ copied (REPLIES + 25) 20 j
+      → m ≡ copied (REPLIES + 34) 22 k
+      → Looks reply-stats 24 xs out m 0
+  unfolding step portRefusal load
+  reply-stats-told l a b c d e f g h i j k m =
+      let s = replyStatsOf (four (laneAt (at xs))) in
+      let six = f ∙ ap (copied 75 10) (e ∙ ap (copied 66 8) (d ∙ ap (copied 91 6) (c ∙ ap (copied 82 4) (b ∙ ap (copied 73 2) a)))) in
+      let all = m ∙ ap (copied 95 22) (k ∙ ap (copied 86 20) (j ∙ ap (copied 77 18) (i ∙ ap (copied 68 16) (h ∙ ap (copied 93 14) (g ∙ ap (copied 84 12) six))))) in
+      look-told reply-stats 24 xs out n l (reply-counts s) (λ t. refl) refl (all ∙ filled (replyCountSlots s) out l)
+
+-- ---- replies
+
+-- a number that is past some numbers, one after another
+past : {m k : ℕ} → m ≤ k → (k ≡ m → ⊥) → m + 1 ≤ k
+past h z = omega arith
+
+-- and one that is before some
+short-of : {m k : ℕ} → k ≤ m + 1 → (k ≡ m + 1 → ⊥) → k ≤ m
+short-of h z = omega arith
+
+-- a number of no other kind is that of a missing reply
+pub no-kind : (k n : ℕ) → (k ≡ 0 → ⊥) → (k ≡ 1 → ⊥) → (k ≡ 2 → ⊥) → (k ≡ 3 → ⊥) → (k ≡ 4 → ⊥) → (k ≡ 5 → ⊥) → (k ≡ 6 → ⊥)
+    → (k ≡ 8 → ⊥) → (k ≡ 9 → ⊥) → (k ≡ 10 → ⊥) → (k ≡ 11 → ⊥) → refused noReply ≡ reply k n
+no-kind k n a b c d e f g h i j m =
+    off _ _ (ne-eqb k 0 a)
+    (off _ _ (ne-eqb k 1 b)
+    (off _ _ (ne-eqb k 2 c)
+    (off _ _ (ne-eqb k 3 d)
+    (off _ _ (ne-eqb k 4 e)
+    (off _ _ (ne-eqb k 5 f)
+    (off _ _ (ne-eqb k 6 g) (last (ltb k 12) refl)))))))
+  where
+    last : (t : Bool) → ltb k 12 ≡ t → _≡_ {A = Reply.Answer Reading} (refused noReply) (pick t (refused k) (refused noReply))
+    last true t =
+        let least : 7 ≤ k = past (past (past (past (past (past (past zero-le a) b) c) d) e) f) g in
+        let most : k ≤ 7 = short-of (short-of (short-of (short-of (le-of-suc-le-suc (ltb-true k 12 t)) m) j) i) h in
+        ap refused (le-antisymm least most)
+    last false t = refl
+
+-- a reply takes four slots
+length-reply : (a : Reply.Answer Reading) → length (replySlots a) ≡ 4
+length-reply (given r) = refl
+length-reply (refused m) = refl
+
+-- the four slots, one after another
+four-told : (k a b c d : ℕ) {i j : ℕ} (xs : List ℕ) → i ≡ k + 1 + 1 → j ≡ k + 1 + 1 + 1 → set (set (set (set xs k a) (k + 1) b) i c) j d ≡ write (slotRows k (a ∷ b ∷ c ∷ d ∷ [])) xs
+four-told k a b c d xs e f = λ t. set (set (set (set xs k a) (k + 1) b) (e t) c) (f t) d
+
+module _ (k : ℕ) (xs : List ℕ) where
+  pub given-told : {kind n : ℕ} {ys : List ℕ} (r : Reading) → kind ≡ kindNumber r → n ≡ readingNumber r → ys ≡ write (wordRows (k + 2) n) (set (set xs k 0) (k + 1) kind)
+      → ys ≡ write (slotRows k (replySlots (given r))) xs
+  given-told {kind} {n} r e f h =
+      h
+      ∙ ap (λ (v : ℕ). write (wordRows (k + 2) v) (set (set xs k 0) (k + 1) kind)) f
+      ∙ ap (λ (v : ℕ). write (wordRows (k + 2) (readingNumber r)) (set (set xs k 0) (k + 1) v)) e
+      ∙ four-told k 0 (kindNumber r) (readingNumber r % 65536) (readingNumber r / 65536) xs (omega arith) (omega arith)
+
+  pub refused-told : {m : ℕ} (number : ℕ) → m ≡ number → set (set (set (set xs k m) (k + 1) 0) (k + 2) 0) (k + 3) 0 ≡ write (slotRows k (replySlots (refused number))) xs
+  refused-told number e = ap (λ (v : ℕ). set (set (set (set xs k v) (k + 1) 0) (k + 2) 0) (k + 3) 0) e ∙ four-told k number 0 0 0 xs (omega arith) (omega arith)
+
+-- what the first k of 17 slots hold
+record Begins (k : ℕ) (p ys : List ℕ) : Type 0 where
+  first : take k ys ≡ p
+  size : length ys ≡ 17
+
+-- a lane's reply behind them
+lane-told : {k : ℕ} {p ys zs : List ℕ} (a : Reply.Answer Reading) → Begins k p ys → k + 4 ≤ 17 → zs ≡ write (slotRows k (replySlots a)) ys → Begins (k + 4) (p ++ replySlots a) zs
+lane-told {k} {p} {ys} {zs} a e h q =
+    let rows = slotRows k (replySlots a) in
+    let there = length-reply a in record {
+      first =
+          ap (λ (l : List ℕ). take (k + 4) l) q
+          ∙ ap (λ (j : ℕ). take (k + j) (write rows ys)) (sym there)
+          ∙ filled-to (replySlots a) ys k (omega (arith, there, e .size))
+          ∙ ap (λ (l : List ℕ). l ++ replySlots a) (e .first);
+      size = ap length q ∙ length-write rows ys ∙ e .size;
+    }
+
+module _ (xs out : List ℕ) where
+  -- the taking's two promises
+  abbrev pub Taken : List ℕ → List ℕ → ℕ → Type 0
+  Taken ys after r =
+      ((b : Buffers) → Called (fit xs (long 17 out)) take-replies b xs ys r)
+      × ((b : Buffers) → after ≡ outAfter (answerOf (fit xs (long 17 out)) (stateAt xs b) take-replies) out)
+
+  pub take-unfit : (length xs ≡ Layout.slots → ⊥) → Taken xs out 13
+  take-unfit h = (λ b. called-unfit xs (state-short xs (long 17 out) h), look-unfit take-replies 17 xs out h .1)
+
+  module _ (n : length xs ≡ Layout.slots) where
+    pub take-short : (length out ≡ 17 → ⊥) → Taken xs out 13
+    take-short h = (λ b. called-unfit xs (other-long xs out 17 n h), look-short take-replies 17 xs out n h .1)
+
+    module _ (l : length out ≡ 17) where
+      -- what is taken where some are held, and where none are
+      abbrev taken : Bool → Option (List (Reply.Answer Reading))
+      taken held = if held then some (repliesOf (four (laneAt (at xs)))) else none
+
+      taken-so : {ys after : List ℕ} {held : Bool} → flag (at xs HELD) ≡ held → Moves (onCore repliesTaken) xs ys → after ≡ takenSlots (taken held) → Taken ys after 0
+      unfolding step portRefusal load
+      taken-so {held = held} e m h = (
+        λ b. called-done xs (both-fit xs out 17 n l) refl m,
+        look-told take-replies 17 xs out n l (replied (taken held)) (λ b. ap (λ (t : Bool). replied (taken t)) e) refl h .1,
+      )
+
+      -- none are held
+      pub none-taken : {after : List ℕ} → flag (at xs HELD) ≡ false → after ≡ replicate 17 0 → Taken xs after 0
+      unfolding load
+      none-taken e h = taken-so e (stays (ap (λ (t : Bool). onCore (λ (c : Core). withFrame (withRepliesHeld t (c .frame)) c) (bankAt (at xs))) e)) h
+
+      -- a lane's reply put behind what is there
+      abbrev pub laneTold : ℕ → ℕ → List ℕ → List ℕ
+      laneTold from to before = write (slotRows to (replySlots (reply (at xs from) (word (from + 1) (at xs))))) before
+
+      -- all lanes' replies
+      pub replies-taken : {c d e f : List ℕ} → flag (at xs HELD) ≡ true → c ≡ laneTold REPLIES 1 (set out 0 1) → d ≡ laneTold (REPLIES + 9) 5 c → e ≡ laneTold (REPLIES + 18) 9 d → f ≡ laneTold (REPLIES + 27) 13 e
+          → Taken (set xs HELD 0) f 0
+      replies-taken {f = f} t c d e q =
+          let lane : ℕ → Reply.Answer Reading = λ (i : ℕ). laneAt (at xs) i .reply in
+          let r : ℕ → List ℕ = λ (i : ℕ). replySlots (lane i) in
+          let one : Begins 1 (1 ∷ []) (set out 0 1) = record { first = filled-to (1 ∷ []) out 0 (omega arith); size = length-set out 0 1 ∙ l } in
+          let all = lane-told (lane 3) (lane-told (lane 2) (lane-told (lane 1) (lane-told (lane 0) one (omega arith) c) (omega arith) d) (omega arith) e) (omega arith) q in
+          taken-so t (moves-write ((HELD holds 0) ∷ []) xs n refl refl (λ w. ((w .0 .0, w .0 .1, w .0 .2, w .0 .3, w .0 .4, refl), w .1)))
+          (sym (take-all 17 f (omega (arith, all .size)))
+          ∙ all .first
+          ∙ ap (λ (u : List ℕ). 1 ∷ u) (append-assoc (r 0 ++ r 1) (r 2) (r 3) ∙ append-assoc (r 0) (r 1) (r 2 ++ r 3)))
+
+-- ---- the view
+
+four-at : {A : Type 0} (f : ℕ → A) (i : ℕ) (d : A) → i < 4 → f i ≡ getD (four f) i d
+four-at f zero d h = refl
+four-at f (suc zero) d h = refl
+four-at f (suc (suc zero)) d h = refl
+four-at f (suc (suc (suc zero))) d h = refl
+four-at f (suc (suc (suc (suc i)))) d h = absurd (omega arith)
+
+-- a lane's part of the buffer that its mark names
+pub view-is : (xs : List ℕ) (b : Buffers) (motor : ℕ) {inSecond : Bool} → motor < 4 → flag (at xs (IN-SECOND + motor)) ≡ inSecond
+    → take 16 (drop (16 * motor) (pick inSecond (b .second) (b .first))) ≡ sequenceSent (load xs .core) b motor
+unfolding load
+view-is xs b motor h e =
+    ap (λ (t : Bool). take 16 (drop (16 * motor) (pick t (b .second) (b .first)))) (sym e ∙ four-at (λ (i : ℕ). flag (at xs (IN-SECOND + i))) motor false h)

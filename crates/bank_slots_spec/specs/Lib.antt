@@ -1,0 +1,9 @@
+pub mod Memory
+pub mod Layout
+pub mod Written
+pub mod Moves
+pub mod Called
+pub mod Parts
+pub mod Outs
+pub mod Handles
+pub mod SlotLists

@@ -1,0 +1,123 @@
+-- How an exported call of a bank puts its answer into the slots that it is lent.
+-- Added, for the calls that document 01 asks for from C.
+-- Assumes nothing.
+use Prim.Native.Nat.{ℕ, _+_, _-_, _*_, _/_, _%_, min}
+use mathlib.Core.Bool.{Bool, true, false}
+use mathlib.Core.List.{List, [], _∷_, _++_, map}
+use mathlib.Core.Option.{Option, none, some}
+use lib.Dec.{eqb}
+use lib.ListN.{length, replicate, getD}
+use Rattle.dshot_reply_spec.specs.Answer.{given, refused, pick, noReply}
+use Rattle.dshot_reply_spec.specs.Answer as Reply
+use Rattle.dshot_reply_spec.specs.Value.{Reading}
+use Rattle.dshot_reply_spec.specs.Kind.{kindNumber, readingNumber}
+use Rattle.dshot_spec.specs.Command.{CommandRun}
+use Rattle.dshot_bank_spec.specs.State.{Stats}
+use Rattle.dshot_bank_spec.specs.Order.{Order}
+use Rattle.dshot_bank_spec.specs.OrderNumber.{code, dutiesIn}
+use Rattle.dshot_bank_spec.specs.Service.{ServiceEvent}
+use Rattle.dshot_bank_spec.specs.Service as Service
+use Rattle.dshot_bank_spec.specs.Interrupt.{InterruptEvent}
+use Rattle.dshot_bank_spec.specs.Interrupt as Interrupt
+use Rattle.dshot_bank_spec.specs.Calls.{Answer, done, motor-sent, serviced, interrupted, replied, counts, values, reply-counts, slots, ReplyStats}
+use Rattle.dshot_bank_spec.specs.Calls as Call
+use Rattle.bank_slots_spec.specs.Layout.{flag, bit, four, fourLists, choiceSlot, replyKind, replyNumber}
+use Rattle.bank_slots_spec.specs.Called.{number}
+
+-- ---- events and orders
+
+-- in the order of DshotServiceEvent and DshotInterruptEvent
+abbrev pub serviceEvent : ServiceEvent → ℕ
+serviceEvent Service.frame-started = 0
+serviceEvent Service.busy = 1
+serviceEvent Service.lease-expired = 2
+serviceEvent Service.faulted = 3
+
+abbrev pub interruptEvent : InterruptEvent → ℕ
+interruptEvent Interrupt.completed = 0
+interruptEvent Interrupt.faulted = 1
+interruptEvent Interrupt.spurious = 2
+
+-- the numbers of some orders, and zeros up to n
+abbrev pub codes : ℕ → List Order → List ℕ
+codes n l = map code l ++ replicate (n - length l) 0
+
+-- the event, how many orders, and each; then the first duties
+abbrev pub serviceSlots : ServiceEvent → List Order → List ℕ
+serviceSlots e l = serviceEvent e ∷ length l ∷ (codes 9 l ++ dutiesIn l)
+
+abbrev pub interruptSlots : InterruptEvent → List Order → List ℕ
+interruptSlots e l = interruptEvent e ∷ length l ∷ codes 7 l
+
+-- ---- the other answers
+
+abbrev pub wordSlots : ℕ → List ℕ
+wordSlots n = n % 65536 ∷ n / 65536 ∷ []
+
+-- 1 and the lane, or 0 and 0 for none
+abbrev pub motorSlots : Option ℕ → List ℕ
+motorSlots none = 0 ∷ 0 ∷ []
+motorSlots (some lane) = 1 ∷ lane ∷ []
+
+-- the counts in the order of DshotStats
+abbrev pub countSlots : Stats → List ℕ
+countSlots s =
+    wordSlots (s .framesStarted)
+    ++ (wordSlots (s .framesCompleted)
+    ++ (fourLists (λ (i : ℕ). wordSlots (getD (s .laneCompletions) i 0))
+    ++ (wordSlots (s .busySkips)
+    ++ (wordSlots (s .leaseExpiries)
+    ++ (wordSlots (s .frameTimeouts)
+    ++ (wordSlots (s .dmaFaults)
+    ++ wordSlots (s .spuriousInterrupts)))))))
+
+-- each count of the four lanes, in the order of DshotReplyStats
+abbrev pub replyCountSlots : ReplyStats → List ℕ
+replyCountSlots s =
+    fourLists (λ (i : ℕ). wordSlots (getD (s .valid) i 0))
+    ++ (fourLists (λ (i : ℕ). wordSlots (getD (s .invalid) i 0))
+    ++ fourLists (λ (i : ℕ). wordSlots (getD (s .consecutiveInvalid) i 0)))
+
+-- a lane's reply: 0, the kind and the number, or the refusal's number and zeros
+abbrev pub replySlots : Reply.Answer Reading → List ℕ
+replySlots (given r) = 0 ∷ kindNumber r ∷ wordSlots (readingNumber r)
+replySlots (refused n) = n ∷ 0 ∷ 0 ∷ 0 ∷ []
+
+-- 1 and the replies of the four lanes, or zeros where none are held
+abbrev pub takenSlots : Option (List (Reply.Answer Reading)) → List ℕ
+takenSlots none = replicate 17 0
+takenSlots (some l) = 1 ∷ fourLists (λ (i : ℕ). replySlots (getD l i (refused noReply)))
+
+-- an answer in slots
+abbrev pub slotsOf : Answer → List ℕ
+slotsOf done = []
+slotsOf (Call.refused n) = []
+slotsOf (motor-sent m) = motorSlots m
+slotsOf (serviced e l) = serviceSlots e l
+slotsOf (interrupted e l) = interruptSlots e l
+slotsOf (replied r) = takenSlots r
+slotsOf (Call.flag b) = bit b ∷ []
+slotsOf (counts s) = countSlots s
+slotsOf (values v) = v
+slotsOf (reply-counts r) = replyCountSlots r
+slotsOf (slots l) = l
+
+-- what lent slots hold after an answer: what is made of it, or what they held before where it is a refusal
+unfoldable pub outAfter : Answer → List ℕ → List ℕ
+outAfter a before = pick (eqb (number a) 0) (slotsOf a) before
+
+-- ---- what the hardware answered, in twelve slots: for each lane whether it took its buffer, whether it has a capture, and its mask
+
+abbrev pub taken : List ℕ → List Bool
+taken xs = four (λ (i : ℕ). flag (getD xs i 0))
+
+abbrev pub present : List ℕ → List Bool
+present xs = four (λ (i : ℕ). flag (getD xs (4 + i) 0))
+
+abbrev pub masks : List ℕ → List ℕ
+masks xs = four (λ (i : ℕ). getD xs (8 + i) 0)
+
+-- ---- a run of two commands, in four slots: the commands, the index and how often the command is still to be sent. An index above 255 is spent,
+-- as 255 is, and of the last slot the low eight bits count, as in the exported call that steps a run
+abbrev pub runGiven : List ℕ → CommandRun
+runGiven xs = record { commands = getD xs 0 0 ∷ getD xs 1 0 ∷ []; index = min (getD xs 2 0) 255; repeatsLeft = getD xs 3 0 % 256 }

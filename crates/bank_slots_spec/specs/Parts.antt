@@ -1,0 +1,86 @@
+-- The parts of a bank's steps, as the code takes them one after another.
+-- Assumes nothing.
+use Prim.Native.Nat.{ℕ, _+_}
+use mathlib.Core.Bool.{true, false, Bool}
+use mathlib.Core.List.{List, [], _∷_}
+use mathlib.Core.Option.{Option, none, some}
+use Rattle.dshot_spec.specs.Throttle.{throttleValues}
+use Rattle.dshot_spec.specs.Command.{CommandRun}
+use Rattle.dshot_bank_spec.specs.State.{Core, LaneReply, Bank}
+use Rattle.dshot_bank_spec.specs.With.{withFramesStarted, withStartedMs, withCompletionMask, withInSecond, withFaulted, withBusy, withReceiving, withRepliesWaiting, withDemand, withTelemetry, withCommandSequence, withFrame, withStats}
+use Rattle.dshot_bank_spec.specs.Replies.{wrappingAdd}
+use Rattle.dshot_bank_spec.specs.Commands.{nextCommandFrame}
+use Rattle.dshot_bank_spec.specs.Service.{repliesRead, readReplies}
+use Rattle.dshot_bank_spec.specs.Send.{countFault, turnMarks, carry}
+use Rattle.dshot_reply_spec.specs.Answer.{pick}
+use Rattle.bank_slots_spec.specs.Layout.{reply}
+use Rattle.bank_slots_spec.specs.Memory.{Row, _holds_, at, write, word, wordRows}
+
+-- one more in the count at slot k
+abbrev pub bumped : ℕ → List ℕ → List ℕ
+bumped k xs = write (wordRows k (wrappingAdd (word k (at xs)))) xs
+
+-- ---- latch_fault
+
+abbrev pub faultCounted : Bool → Core → Core
+faultCounted spurious c = withStats (countFault (c .frame .faulted) spurious (c .stats)) c
+
+abbrev pub flagsLatched : Core → Core
+flagsLatched c = withFrame (withRepliesWaiting false (withReceiving false (withBusy false (withFaulted true (c .frame))))) c
+
+abbrev pub requestsCleared : Core → Core
+requestsCleared c = withCommandSequence none (withTelemetry (record { request = none; requestSent = none }) c)
+
+-- ---- commands
+
+-- a demand in force
+abbrev pub demanded : List ℕ → ℕ → ℕ → Core → Core
+demanded commands now lease c = withDemand (record { requestedValues = throttleValues 4 commands; leaseStartedMs = now; leaseDurationMs = some lease }) c
+
+-- a run queued
+abbrev pub queued : ℕ → CommandRun → Core → Core
+queued motor sequence c = withCommandSequence (some (record { motor = motor; sequence = sequence })) c
+
+-- ---- replies
+
+-- a lane's record in the nine slots from slot k
+abbrev pub laneFrom : ℕ → (ℕ → ℕ) → LaneReply
+laneFrom k m = record { reply = reply (m k) (word (k + 1) m); valid = word (k + 3) m; invalid = word (k + 5) m; consecutiveInvalid = word (k + 7) m }
+
+abbrev pub withReplies : List LaneReply → Bank → Bank
+withReplies l b = record { core = b .core; replies = l }
+
+-- the windows read, where they wait
+abbrev pub windowsRead : List Bool → List ℕ → List ℕ → Bank → Bank
+windowsRead present masks samples b =
+    record { core = repliesRead (b .core); replies = readReplies 4 (b .core .frame .repliesWaiting) present masks samples (b .replies) }
+
+-- ---- sending
+
+-- the run stepped
+abbrev pub runStepped : Core → Core
+runStepped c = withCommandSequence (nextCommandFrame c .left) c
+
+-- the marks of the first lanes turned
+abbrev pub marksTurned : ℕ → Core → Core
+marksTurned turned c = withFrame (withInSecond (turnMarks 4 turned (c .frame .inSecond)) (c .frame)) c
+
+-- an ordinary frame carries the pending request, and a special command's none
+abbrev pub carriedBy : Bool → Core → Option ℕ
+carriedBy ordinary c = pick ordinary (c .telemetry .request) none
+
+abbrev pub requestCarried : Bool → Core → Core
+requestCarried ordinary c = withTelemetry (carry (carriedBy ordinary c) (c .telemetry)) c
+
+-- a frame set in flight, but for what it carries
+abbrev pub inFlight : ℕ → Core → Core
+inFlight now c =
+    withStats (withFramesStarted (wrappingAdd (c .stats .framesStarted)) (c .stats))
+    (withFrame (withBusy true (withCompletionMask 0 (withStartedMs now (c .frame)))) c)
+
+-- ---- answers
+
+-- some values for the slots from slot k on
+abbrev pub slotRows : ℕ → List ℕ → List Row
+slotRows k [] = []
+slotRows k (v ∷ vs) = (k holds v) ∷ slotRows (k + 1) vs

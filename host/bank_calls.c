@@ -1,0 +1,335 @@
+/* The calls of the program bank_lists: each takes the numbers of a line, calls the library, and keeps what that
+ * gave. What the numbers are is told in crates/dshot_bank_cases/src, in the files that calls.rt names. */
+#include <stdio.h>
+#include <stdlib.h>
+#include <string.h>
+
+#include "bank_lists.h"
+
+enum { MOST_SAMPLES = 700, FIRST_LOOK = 11 };
+
+/* A list may name a lane that is too large by far, and the call is to get it whole. */
+_Static_assert(SIZE_MAX >= UINT64_MAX, "a lane takes 64 bits");
+
+#define BANK kept->bank, KUZHENGA_BANK_SLOTS
+
+typedef int call(struct kept *kept, const struct line *line, struct outcome *outcome);
+
+/* ---- answers ------------------------------------------------------------------------------------------------ */
+
+static void end(const char *what, unsigned long number)
+{
+    fflush(stdout); /* so that the lines before it are seen */
+    fprintf(stderr, "bank_lists: %s %lu\n", what, number);
+    exit(1);
+}
+
+/* For a call that has nothing to refuse where every length is right: it has no place in the text. */
+static void must(uint32_t refusal)
+{
+    if (refusal != KUZHENGA_DONE)
+        end("refused", refusal);
+}
+
+static int answer(struct outcome *outcome, uint64_t number)
+{
+    outcome->answer[outcome->answers++] = number;
+    return 1;
+}
+
+/* The text numbers events from 1, and a refused call has none. */
+static int answer_event(struct outcome *outcome, uint32_t refusal, uint16_t event)
+{
+    answer(outcome, refusal);
+    return answer(outcome, refusal == KUZHENGA_DONE ? event + 1u : 0u);
+}
+
+static void keep_orders(struct outcome *outcome, const uint16_t *told, size_t most)
+{
+    size_t orders = told[KUZHENGA_ORDERS];
+    if (orders > most)
+        end("too many orders:", orders);
+    outcome->orders = orders;
+    memcpy(outcome->order, told + KUZHENGA_FIRST_ORDER, orders * sizeof *told);
+}
+
+/* Numbers that are known to fit. */
+static void narrow(uint16_t *out, const uint64_t *given, size_t count)
+{
+    for (size_t i = 0; i < count; i++)
+        out[i] = (uint16_t)given[i];
+}
+
+/* ---- a new bank, and what commands one ------------------------------------------------------------------------ */
+
+void begin(struct kept *kept)
+{
+    static const uint16_t timing[KUZHENGA_TIMING_SLOTS];
+    memset(kept, 0, sizeof *kept);
+    must(kuzhenga_bank_from_lanes(timing, KUZHENGA_TIMING_SLOTS, BANK));
+}
+
+static int from_lanes(struct kept *kept, const struct line *line, struct outcome *outcome)
+{
+    uint16_t timing[KUZHENGA_TIMING_SLOTS];
+    (void)outcome;
+    narrow(timing, line->given, KUZHENGA_TIMING_SLOTS);
+    must(kuzhenga_bank_from_lanes(timing, KUZHENGA_TIMING_SLOTS, BANK));
+    return 1;
+}
+
+static int enable_bidirectional(struct kept *kept, const struct line *line, struct outcome *outcome)
+{
+    return answer(outcome, kuzhenga_bank_enable_bidirectional(BANK, (uint32_t)line->given[0]));
+}
+
+static int command_stop(struct kept *kept, const struct line *line, struct outcome *outcome)
+{
+    (void)line;
+    return answer(outcome, kuzhenga_bank_command_stop(BANK));
+}
+
+static int command_throttles(struct kept *kept, const struct line *line, struct outcome *outcome)
+{
+    uint16_t throttles[KUZHENGA_LANES];
+    narrow(throttles, line->given, KUZHENGA_LANES);
+    return answer(outcome, kuzhenga_bank_command_throttles(BANK, throttles, KUZHENGA_LANES, line->given[4],
+                                                           (uint32_t)line->given[5]));
+}
+
+static int command_special(struct kept *kept, const struct line *line, struct outcome *outcome)
+{
+    uint16_t run[KUZHENGA_RUN_SLOTS];
+    narrow(run, line->given + 1, KUZHENGA_RUN_SLOTS);
+    return answer(outcome, kuzhenga_bank_command_special(BANK, line->given[0], run, KUZHENGA_RUN_SLOTS));
+}
+
+static int request_telemetry(struct kept *kept, const struct line *line, struct outcome *outcome)
+{
+    return answer(outcome, kuzhenga_bank_request_telemetry(BANK, line->given[0]));
+}
+
+static int cancel_telemetry_request(struct kept *kept, const struct line *line, struct outcome *outcome)
+{
+    (void)line;
+    return answer(outcome, kuzhenga_bank_cancel_telemetry_request(BANK));
+}
+
+/* The text has 0 for no lane, and one more than the lane. */
+static int take_telemetry_request_sent(struct kept *kept, const struct line *line, struct outcome *outcome)
+{
+    uint16_t motor[2];
+    (void)line;
+    must(kuzhenga_bank_take_telemetry_request_sent(BANK, motor, 2));
+    return answer(outcome, motor[0] ? motor[1] + 1u : 0u);
+}
+
+/* ---- services and interrupts ---------------------------------------------------------------------------------- */
+
+/* Writes out runs, each a sample and how many times it comes, and leaves the rest. 0 where there is no room. */
+static int unroll(uint16_t *samples, size_t room, const uint64_t *runs, size_t count)
+{
+    size_t n = 0;
+    for (size_t i = 0; i < count; i += 2) {
+        if (runs[i] > UINT16_MAX || runs[i + 1] > room - n)
+            return 0;
+        for (uint64_t left = runs[i + 1]; left > 0; left--)
+            samples[n++] = (uint16_t)runs[i];
+    }
+    return 1;
+}
+
+/* Of each buffer as much is lent as the line says. */
+static int service(struct kept *kept, const struct line *line, struct outcome *outcome)
+{
+    const uint64_t *given = line->given;
+    uint16_t captures[MOST_SAMPLES] = {0}, lanes[KUZHENGA_LANES_SLOTS], told[KUZHENGA_SERVICE_SLOTS] = {0};
+    size_t runs = line->count - 17;
+    if (runs % 2 != 0 || runs / 2 != given[16] || !unroll(captures, given[15], given + 17, runs))
+        return 0;
+    narrow(lanes, given + 1, KUZHENGA_LANES_SLOTS);
+    uint32_t refusal = kuzhenga_bank_service(BANK, given[0], lanes, KUZHENGA_LANES_SLOTS, kept->first, given[13],
+                                             kept->second, given[14], captures, given[15], told,
+                                             KUZHENGA_SERVICE_SLOTS);
+    keep_orders(outcome, told, KUZHENGA_FIRST_DUTY - KUZHENGA_FIRST_ORDER);
+    memcpy(outcome->duties, told + KUZHENGA_FIRST_DUTY, sizeof outcome->duties);
+    return answer_event(outcome, refusal, told[KUZHENGA_EVENT]);
+}
+
+static int on_dma_interrupt(struct kept *kept, const struct line *line, struct outcome *outcome)
+{
+    const uint64_t *given = line->given;
+    uint16_t told[KUZHENGA_INTERRUPT_SLOTS] = {0};
+    uint32_t refusal = kuzhenga_bank_on_dma_interrupt(BANK, given[0], (uint32_t)given[1], (uint32_t)given[2],
+                                                      (uint32_t)given[3], (uint32_t)given[4], told,
+                                                      KUZHENGA_INTERRUPT_SLOTS);
+    keep_orders(outcome, told, KUZHENGA_INTERRUPT_SLOTS - KUZHENGA_FIRST_ORDER);
+    return answer_event(outcome, refusal, told[KUZHENGA_EVENT]);
+}
+
+/* ---- looks ---------------------------------------------------------------------------------------------------- */
+
+/* 0 where none are held, else 1 and for each lane the refusal, the kind and the number. */
+static int take_replies(struct kept *kept, const struct line *line, struct outcome *outcome)
+{
+    uint16_t taken[KUZHENGA_TAKEN_SLOTS];
+    (void)line;
+    must(kuzhenga_bank_take_replies(BANK, taken, KUZHENGA_TAKEN_SLOTS));
+    answer(outcome, taken[0]);
+    for (size_t lane = 0; taken[0] != 0 && lane < KUZHENGA_LANES; lane++) {
+        const uint16_t *reply = taken + 1 + 4 * lane;
+        answer(outcome, reply[0]);
+        answer(outcome, reply[1]);
+        answer(outcome, kuzhenga_reading_number(reply + 1));
+    }
+    return 1;
+}
+
+static const struct {
+    uint32_t (*call)(const uint16_t *bank, size_t bank_len, uint16_t *out, size_t out_len);
+    size_t slots;
+    int counts; /* whether each number takes two */
+} looks[] = {
+    {kuzhenga_bank_is_bidirectional, 1, 0},
+    {kuzhenga_bank_is_faulted, 1, 0},
+    {kuzhenga_bank_stats, KUZHENGA_STATS_SLOTS, 1},
+    {kuzhenga_bank_requested_values, KUZHENGA_LANES, 0},
+    {kuzhenga_bank_command_pending, 1, 0},
+    {kuzhenga_bank_reply_stats, KUZHENGA_REPLY_STATS_SLOTS, 1},
+};
+
+static int look(struct kept *kept, const struct line *line, struct outcome *outcome)
+{
+    size_t which = line->code - FIRST_LOOK;
+    uint16_t out[KUZHENGA_REPLY_STATS_SLOTS]; /* the most */
+    must(looks[which].call(BANK, out, looks[which].slots));
+    size_t numbers = looks[which].counts ? looks[which].slots / 2 : looks[which].slots;
+    for (size_t i = 0; i < numbers; i++)
+        answer(outcome, looks[which].counts ? kuzhenga_count(out, i) : out[i]);
+    return 1;
+}
+
+/* The refusal, and the slots where there is none. */
+static int sending(struct kept *kept, const struct line *line, struct outcome *outcome)
+{
+    const uint64_t *given = line->given;
+    uint16_t slots[KUZHENGA_SEQUENCE_SLOTS];
+    uint32_t refusal = kuzhenga_bank_sending(BANK, kept->first, given[1], kept->second, given[2], given[0], slots,
+                                             KUZHENGA_SEQUENCE_SLOTS);
+    answer(outcome, refusal);
+    for (size_t i = 0; refusal == KUZHENGA_DONE && i < KUZHENGA_SEQUENCE_SLOTS; i++)
+        answer(outcome, slots[i]);
+    return 1;
+}
+
+static int release_due(struct kept *kept, const struct line *line, struct outcome *outcome)
+{
+    (void)kept;
+    return answer(outcome, kuzhenga_fallback_release_due((uint32_t)line->given[0], (uint32_t)line->given[1]));
+}
+
+/* ---- what is set by hand: no call of the library does it ------------------------------------------------------ */
+
+static int set_slot(struct kept *kept, const struct line *line, struct outcome *outcome)
+{
+    uint16_t *buffer = line->given[0] ? kept->second : kept->first;
+    (void)outcome;
+    buffer[line->given[1]] = (uint16_t)line->given[2];
+    return 1;
+}
+
+static void put_count(uint16_t *slots, uint64_t count)
+{
+    slots[0] = (uint16_t)count;
+    slots[1] = (uint16_t)(count >> 16);
+}
+
+static int set_stats(struct kept *kept, const struct line *line, struct outcome *outcome)
+{
+    (void)outcome;
+    for (size_t i = 0; i < line->count; i++)
+        put_count(kept->bank + COUNTS + 2 * i, line->given[i]);
+    return 1;
+}
+
+/* A line has one count of the four lanes after the other, the slots one lane after the other. */
+static int set_reply_stats(struct kept *kept, const struct line *line, struct outcome *outcome)
+{
+    (void)outcome;
+    for (size_t i = 0; i < line->count; i++) {
+        size_t lane = i % KUZHENGA_LANES, which = i / KUZHENGA_LANES;
+        put_count(kept->bank + REPLIES + REPLY_SLOTS * lane + REPLY_COUNTS + 2 * which, line->given[i]);
+    }
+    return 1;
+}
+
+/* ---- the call of a code --------------------------------------------------------------------------------------- */
+
+/* What it takes has a letter for each number: f a flag, b 8 bits, h 16, w 32, l 64, s a slot of a buffer, p a part
+ * of a buffer, c samples of a capture. More numbers may come at a +. */
+static const struct {
+    call *make;
+    const char *takes;
+} calls[] = {
+    {from_lanes, "hhhh"},
+    {enable_bidirectional, "f"},
+    {command_stop, ""},
+    {command_throttles, "hhhhlw"},
+    {command_special, "lhhbb"},
+    {request_telemetry, "l"},
+    {cancel_telemetry_request, ""},
+    {take_telemetry_request_sent, ""},
+    {service, "lffffffffhhhhppcl+"},
+    {on_dma_interrupt, "lffff"},
+    {take_replies, ""},
+    {look, ""},
+    {look, ""},
+    {look, ""},
+    {look, ""},
+    {look, ""},
+    {look, ""},
+    {sending, "lpp"},
+    {set_slot, "fsh"},
+    {set_stats, "wwwwwwwwwww"},
+    {set_reply_stats, "wwwwwwwwwwww"},
+    {release_due, "ww"},
+};
+
+static uint64_t most(char letter)
+{
+    switch (letter) {
+    case 'f':
+        return 1;
+    case 'b':
+        return UINT8_MAX;
+    case 'h':
+        return UINT16_MAX;
+    case 'w':
+        return UINT32_MAX;
+    case 's':
+        return KUZHENGA_BUFFER_SLOTS - 1;
+    case 'p':
+        return ROOM;
+    case 'c':
+        return MOST_SAMPLES;
+    default:
+        return UINT64_MAX;
+    }
+}
+
+static int takes(const char *letters, const struct line *line)
+{
+    size_t i = 0;
+    for (; letters[i] != '\0' && letters[i] != '+'; i++)
+        if (i >= line->count || line->given[i] > most(letters[i]))
+            return 0;
+    return letters[i] == '+' || i == line->count;
+}
+
+int make_call(struct kept *kept, const struct line *line, struct outcome *outcome)
+{
+    memset(outcome, 0, sizeof *outcome);
+    if (line->code >= sizeof calls / sizeof *calls || !takes(calls[line->code].takes, line))
+        return 0;
+    return calls[line->code].make(kept, line, outcome);
+}

@@ -1,0 +1,248 @@
+/* Makes the calls of a list on a bank, and prints what each gave: what crates/dshot_bank_cases does, by the calls
+ * for C, with every field of the bank read out of its slots. List and text are described there.
+ *
+ *   bank_lists <LIST
+ *
+ * Exit status: 0 the list is done, or a line cannot be read, which the text tells; 1 a call gave what its header
+ * does not name, or the text cannot be written.
+ */
+#include <inttypes.h>
+#include <stdio.h>
+#include <string.h>
+
+#include "bank_lists.h"
+
+enum {
+    MOST_BYTES = 65536,               /* a list has fewer */
+    MOST_NUMBERS = 18 + 2 * 700,      /* of a line: eighteen, and two for each of 700 runs */
+    STATS = KUZHENGA_STATS_SLOTS / 2, /* the counts of a bank */
+    LANE_COUNTS = 3                   /* and those of a lane's replies */
+};
+
+/* ---- the text ------------------------------------------------------------------------------------------------- */
+
+static void number(uint64_t n)
+{
+    printf(" %" PRIu64, n);
+}
+
+static void slots(const uint16_t *from, size_t count)
+{
+    for (size_t i = 0; i < count; i++)
+        number(from[i]);
+}
+
+static uint64_t long_at(const uint16_t *from)
+{
+    return kuzhenga_count(from, 0) | (uint64_t)kuzhenga_count(from, 1) << 32;
+}
+
+/* Each number has a space before it; a part without numbers has just the space. */
+static void bar(void)
+{
+    printf(" |");
+}
+
+static void empty(void)
+{
+    printf(" ");
+}
+
+static void put_orders(const struct outcome *outcome)
+{
+    if (outcome->orders == 0)
+        empty();
+    for (size_t i = 0; i < outcome->orders; i++) {
+        unsigned kind = kuzhenga_order_kind(outcome->order[i]);
+        number(kind);
+        number(kuzhenga_order_lane(outcome->order[i]));
+        if (kind == KUZHENGA_START_FRAME)
+            slots(outcome->duties, KUZHENGA_LANES);
+    }
+}
+
+/* ---- the bank's fields, out of its slots ---------------------------------------------------------------------- */
+
+static void put_lease(const uint16_t *bank)
+{
+    uint64_t over = long_at(bank + LEASE_OVER);
+    number(long_at(bank + LEASE_STARTED));
+    number(over != 0);
+    if (over != 0)
+        number(over - 1);
+}
+
+/* The slots have one kind for all channels of debug, and a refusal as a kind; the text has the kinds of the
+ * bench's line, and before them the refusal. */
+static void put_reply(const uint16_t *lane)
+{
+    static const unsigned kinds[] = {KUZHENGA_ERPM,   KUZHENGA_TEMP,  KUZHENGA_VOLT, KUZHENGA_AMP,
+                                     KUZHENGA_DEBUG1, KUZHENGA_STATE, KUZHENGA_EDT};
+    enum { DEBUG = 4, CHANNEL = 256 };
+    unsigned kind = lane[0];
+    uint32_t carried = kuzhenga_reading_number(lane);
+    if (kind >= sizeof kinds / sizeof *kinds) {
+        number(kind);
+        number(0);
+        number(0);
+        return;
+    }
+    number(0);
+    number(kind == DEBUG ? kinds[kind] + carried / CHANNEL - 1 : kinds[kind]);
+    number(kind == DEBUG ? carried % CHANNEL : carried);
+}
+
+static void put_replies(const uint16_t *bank)
+{
+    number(bank[HELD]);
+    for (size_t lane = 0; bank[HELD] != 0 && lane < KUZHENGA_LANES; lane++)
+        put_reply(bank + REPLIES + REPLY_SLOTS * lane);
+}
+
+static void put_counts(const uint16_t *bank)
+{
+    for (size_t i = 0; i < STATS; i++)
+        number(kuzhenga_count(bank + COUNTS, i));
+    for (size_t which = 0; which < LANE_COUNTS; which++)
+        for (size_t lane = 0; lane < KUZHENGA_LANES; lane++)
+            number(kuzhenga_count(bank + REPLIES + REPLY_SLOTS * lane + REPLY_COUNTS, which));
+}
+
+/* Flags and lanes are printed as the slots have them, so that one that is not as the header says would show. */
+static void put_fields(const uint16_t *bank)
+{
+    slots(bank + TIMING, KUZHENGA_TIMING_SLOTS);
+    slots(bank + VALUES, KUZHENGA_LANES);
+    put_lease(bank);
+    number(bank[REQUEST]);
+    number(bank[REQUEST_SENT]);
+    slots(bank + RUN, bank[RUN] != 0 ? 1 + KUZHENGA_RUN_SLOTS : 1);
+    number(long_at(bank + STARTED));
+    number(kuzhenga_count(bank + COMPLETION, 0));
+    number(bank[BUSY]);
+    number(bank[FAULTED]);
+    number(bank[BIDIRECTIONAL]);
+    number(bank[RECEIVING]);
+    number(bank[WAITING]);
+    put_replies(bank);
+    put_counts(bank);
+    slots(bank + IN_SECOND, KUZHENGA_LANES);
+}
+
+/* ---- the slots that a call changed ---------------------------------------------------------------------------- */
+
+static size_t put_buffer(unsigned buffer, const uint16_t *before, const uint16_t *after)
+{
+    size_t changed = 0;
+    for (size_t slot = 0; slot < ROOM; slot++) {
+        if (before[slot] == after[slot])
+            continue;
+        number(buffer);
+        number(slot);
+        number(after[slot]);
+        changed++;
+    }
+    return changed;
+}
+
+static void put_changed(const struct kept *before, const struct kept *after)
+{
+    size_t changed = put_buffer(0, before->first, after->first);
+    changed += put_buffer(1, before->second, after->second);
+    if (changed == 0)
+        empty();
+}
+
+/* ---- a line --------------------------------------------------------------------------------------------------- */
+
+/* Reads digits, at least one, and answers where they end. NULL where there is none, or the number has more than 64
+ * bits. */
+static const char *read_number(const char *at, const char *end, uint64_t *value)
+{
+    const char *from = at;
+    *value = 0;
+    for (; at < end && *at >= '0' && *at <= '9'; at++) {
+        unsigned digit = (unsigned)(*at - '0');
+        if (*value > (UINT64_MAX - digit) / 10)
+            return NULL;
+        *value = *value * 10 + digit;
+    }
+    return at == from ? NULL : at;
+}
+
+/* Reads numbers with one space between them, and answers how many there are: 0 where the line has anything else. */
+static size_t read_line(const char *at, const char *end, uint64_t *numbers)
+{
+    for (size_t n = 0; n < MOST_NUMBERS; n++) {
+        at = read_number(at, end, &numbers[n]);
+        if (at == NULL)
+            return 0;
+        if (at == end)
+            return n + 1;
+        if (*at++ != ' ')
+            return 0;
+    }
+    return 0;
+}
+
+/* A new bank starts with buffers of zeros. They are there before the copy is taken, so its line shows no slot. */
+static void clear_buffers(struct kept *kept)
+{
+    memset(kept->first, 0, sizeof kept->first);
+    memset(kept->second, 0, sizeof kept->second);
+}
+
+static int run_line(struct kept *kept, const char *at, const char *end)
+{
+    static uint64_t numbers[MOST_NUMBERS];
+    struct outcome outcome;
+    size_t n = read_line(at, end, numbers);
+    if (n == 0)
+        return 0;
+    struct line line = {numbers[0], numbers + 1, n - 1};
+    if (line.code == 0)
+        clear_buffers(kept);
+    struct kept before = *kept;
+    if (!make_call(kept, &line, &outcome))
+        return 0;
+    printf("%" PRIu64, line.code);
+    for (size_t i = 0; i < outcome.answers; i++)
+        number(outcome.answer[i]);
+    bar();
+    put_orders(&outcome);
+    bar();
+    put_fields(kept->bank);
+    bar();
+    put_changed(&before, kept);
+    printf("\n");
+    return 1;
+}
+
+static void run_list(const char *text, size_t length)
+{
+    const char *end = text + length;
+    struct kept kept;
+    unsigned long lines = 0;
+    begin(&kept);
+    while (text < end) {
+        const char *found = memchr(text, '\n', (size_t)(end - text));
+        const char *stop = found != NULL ? found : end;
+        lines++;
+        if (!run_line(&kept, text, stop)) {
+            printf("unreadable line %lu\n", lines);
+            return;
+        }
+        text = found != NULL ? found + 1 : end;
+    }
+}
+
+int main(void)
+{
+    static char text[MOST_BYTES];
+    size_t length = fread(text, 1, sizeof text, stdin);
+    if (length == sizeof text)
+        printf("list too long\n");
+    else
+        run_list(text, length);
+    return fflush(stdout) != 0 || ferror(stdout);
+}
