@@ -36,7 +36,7 @@ ghost use Rattle.dshot_bank_spec.specs.Calls as Call;
 ghost use Rattle.bank_slots_spec.specs.Memory.{at};
 ghost use Rattle.bank_slots_spec.specs.Layout.{slots, choice, timingAt, load, store};
 ghost use Rattle.bank_slots_spec.specs.Moves.{Moves, onCore};
-ghost use Rattle.bank_slots_spec.specs.Called.{Called, fit, long, stateAt, answerOf};
+ghost use Rattle.bank_slots_spec.specs.Called.{Called, fit, long, stateAt, answerOf, number};
 ghost use Rattle.bank_slots_spec.specs.Outs.{motorSlots, outAfter, runGiven};
 ghost use Rattle.bank_slots_spec.specs.Parts.{demanded, queued};
 
@@ -72,6 +72,7 @@ pub fn from_lanes(timing: &[u16], bank: &mut [u16]) -> u32
 
 // Switches to bidirectional DShot: meant for before the first frame, and not refused later. Refused if a lane cannot receive replies.
 pub fn enable_bidirectional(bank: &mut [u16], receives_replies: bool) -> u32
+    ensures { λ r. ⌜ ((b : Buffers) → r ≡ number (answerOf (fit (now (bank .entry)) true) (stateAt (now (bank .entry)) b) (Call.enable-bidirectional «receives_replies»))) ⌝ }
     ensures { λ r. ⌜ ((b : Buffers) → Called (fit (now (bank .entry)) true) (Call.enable-bidirectional «receives_replies») b (now (bank .entry)) (now (bank .exit)) r) ⌝ }
 {
     if bank.len() != SLOTS {
@@ -87,6 +88,7 @@ pub fn enable_bidirectional(bank: &mut [u16], receives_replies: bool) -> u32
 // ---- demands
 
 pub fn command_stop(bank: &mut [u16]) -> u32
+    ensures { λ r. ⌜ ((b : Buffers) → r ≡ number (answerOf (fit (now (bank .entry)) true) (stateAt (now (bank .entry)) b) Call.command-stop)) ⌝ }
     ensures { λ r. ⌜ ((b : Buffers) → Called (fit (now (bank .entry)) true) Call.command-stop b (now (bank .entry)) (now (bank .exit)) r) ⌝ }
 {
     if bank.len() != SLOTS {
@@ -130,6 +132,7 @@ pub fn command_throttles(
     now_ms: u64,
     lease_duration_ms: u32,
 ) -> u32
+    ensures { λ r. ⌜ ((b : Buffers) → r ≡ number (answerOf (fit (now (bank .entry)) (long 4 (now (commands .entry)))) (stateAt (now (bank .entry)) b) (Call.command-throttles (now (commands .entry)) «now_ms» «lease_duration_ms»))) ⌝ }
     ensures { λ r. ⌜ ((b : Buffers) → Called (fit (now (bank .entry)) (long 4 (now (commands .entry)))) (Call.command-throttles (now (commands .entry)) «now_ms» «lease_duration_ms») b (now (bank .entry)) (now (bank .exit)) r) ⌝ }
 {
     if bank.len() != SLOTS {
@@ -185,6 +188,7 @@ fn queue(bank: &mut [u16], motor: usize, sequence: &[u16])
 //
 // Refused unless every motor is stopped with no command lease, so a command frame never replaces a throttle frame on a spinning motor.
 pub fn command_special(bank: &mut [u16], motor: usize, sequence: &[u16]) -> u32
+    ensures { λ r. ⌜ ((b : Buffers) → r ≡ number (answerOf (fit (now (bank .entry)) (long 4 (now (sequence .entry)))) (stateAt (now (bank .entry)) b) (Call.command-special motor (runGiven (now (sequence .entry)))))) ⌝ }
     ensures { λ r. ⌜ ((b : Buffers) → Called (fit (now (bank .entry)) (long 4 (now (sequence .entry)))) (Call.command-special motor (runGiven (now (sequence .entry)))) b (now (bank .entry)) (now (bank .exit)) r) ⌝ }
 {
     if bank.len() != SLOTS {
@@ -213,6 +217,7 @@ pub fn command_special(bank: &mut [u16], motor: usize, sequence: &[u16]) -> u32
 
 // Requests legacy UART telemetry from exactly one motor in the next ordinary frame that starts; one that sends a special command leaves it.
 pub fn request_telemetry(bank: &mut [u16], motor: usize) -> u32
+    ensures { λ r. ⌜ ((b : Buffers) → r ≡ number (answerOf (fit (now (bank .entry)) true) (stateAt (now (bank .entry)) b) (Call.request-telemetry motor))) ⌝ }
     ensures { λ r. ⌜ ((b : Buffers) → Called (fit (now (bank .entry)) true) (Call.request-telemetry motor) b (now (bank .entry)) (now (bank .exit)) r) ⌝ }
 {
     if bank.len() != SLOTS {
@@ -233,6 +238,7 @@ pub fn request_telemetry(bank: &mut [u16], motor: usize) -> u32
 
 // Withdraws a telemetry request no frame has carried yet. The ESC manager has given up on it, so it must not reach an ESC later.
 pub fn cancel_telemetry_request(bank: &mut [u16]) -> u32
+    ensures { λ r. ⌜ ((b : Buffers) → r ≡ number (answerOf (fit (now (bank .entry)) true) (stateAt (now (bank .entry)) b) Call.cancel-telemetry-request)) ⌝ }
     ensures { λ r. ⌜ ((b : Buffers) → Called (fit (now (bank .entry)) true) Call.cancel-telemetry-request b (now (bank .entry)) (now (bank .exit)) r) ⌝ }
 {
     if bank.len() != SLOTS {

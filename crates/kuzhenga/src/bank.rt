@@ -32,6 +32,7 @@ pub extern "C" fn kuzhenga_bank_from_lanes(timing: &[u16], bank: &mut [u16]) -> 
 // Switches to bidirectional DShot, before the first frame.
 #[no_mangle]
 pub extern "C" fn kuzhenga_bank_enable_bidirectional(bank: &mut [u16], receives_replies: u32) -> u32
+    ensures { λ r. ⌜ ((b : Buffers) → r ≡ number (answerOf (fit (now (bank .entry)) true) (stateAt (now (bank .entry)) b) (Call.enable-bidirectional (not (eqb «receives_replies» 0))))) ⌝ }
     ensures { λ r. ⌜ ((b : Buffers) → Called (fit (now (bank .entry)) true) (Call.enable-bidirectional (not (eqb «receives_replies» 0))) b (now (bank .entry)) (now (bank .exit)) r) ⌝ }
 {
     commands::enable_bidirectional(bank, receives_replies != 0)
@@ -40,6 +41,7 @@ pub extern "C" fn kuzhenga_bank_enable_bidirectional(bank: &mut [u16], receives_
 // Stops the motors and ends the lease.
 #[no_mangle]
 pub extern "C" fn kuzhenga_bank_command_stop(bank: &mut [u16]) -> u32
+    ensures { λ r. ⌜ ((b : Buffers) → r ≡ number (answerOf (fit (now (bank .entry)) true) (stateAt (now (bank .entry)) b) (Call.command-stop))) ⌝ }
     ensures { λ r. ⌜ ((b : Buffers) → Called (fit (now (bank .entry)) true) (Call.command-stop) b (now (bank .entry)) (now (bank .exit)) r) ⌝ }
 {
     commands::command_stop(bank)
@@ -53,6 +55,7 @@ pub extern "C" fn kuzhenga_bank_command_throttles(
     now_ms: u64,
     lease_ms: u32,
 ) -> u32
+    ensures { λ r. ⌜ ((b : Buffers) → r ≡ number (answerOf (fit (now (bank .entry)) (long 4 (now (throttles .entry)))) (stateAt (now (bank .entry)) b) (Call.command-throttles (now (throttles .entry)) «now_ms» «lease_ms»))) ⌝ }
     ensures { λ r. ⌜ ((b : Buffers) → Called (fit (now (bank .entry)) (long 4 (now (throttles .entry)))) (Call.command-throttles (now (throttles .entry)) «now_ms» «lease_ms») b (now (bank .entry)) (now (bank .exit)) r) ⌝ }
 {
     commands::command_throttles(bank, throttles, now_ms, lease_ms)
@@ -61,6 +64,7 @@ pub extern "C" fn kuzhenga_bank_command_throttles(
 // Queues a run of special-command frames for one motor: the run in four slots.
 #[no_mangle]
 pub extern "C" fn kuzhenga_bank_command_special(bank: &mut [u16], motor: usize, run: &[u16]) -> u32
+    ensures { λ r. ⌜ ((b : Buffers) → r ≡ number (answerOf (fit (now (bank .entry)) (long 4 (now (run .entry)))) (stateAt (now (bank .entry)) b) (Call.command-special motor (runGiven (now (run .entry)))))) ⌝ }
     ensures { λ r. ⌜ ((b : Buffers) → Called (fit (now (bank .entry)) (long 4 (now (run .entry)))) (Call.command-special motor (runGiven (now (run .entry)))) b (now (bank .entry)) (now (bank .exit)) r) ⌝ }
 {
     commands::command_special(bank, motor, run)
@@ -69,6 +73,7 @@ pub extern "C" fn kuzhenga_bank_command_special(bank: &mut [u16], motor: usize, 
 // Requests telemetry from one motor in the next ordinary frame.
 #[no_mangle]
 pub extern "C" fn kuzhenga_bank_request_telemetry(bank: &mut [u16], motor: usize) -> u32
+    ensures { λ r. ⌜ ((b : Buffers) → r ≡ number (answerOf (fit (now (bank .entry)) true) (stateAt (now (bank .entry)) b) (Call.request-telemetry motor))) ⌝ }
     ensures { λ r. ⌜ ((b : Buffers) → Called (fit (now (bank .entry)) true) (Call.request-telemetry motor) b (now (bank .entry)) (now (bank .exit)) r) ⌝ }
 {
     commands::request_telemetry(bank, motor)
@@ -77,6 +82,7 @@ pub extern "C" fn kuzhenga_bank_request_telemetry(bank: &mut [u16], motor: usize
 // Withdraws a telemetry request that no frame has carried yet.
 #[no_mangle]
 pub extern "C" fn kuzhenga_bank_cancel_telemetry_request(bank: &mut [u16]) -> u32
+    ensures { λ r. ⌜ ((b : Buffers) → r ≡ number (answerOf (fit (now (bank .entry)) true) (stateAt (now (bank .entry)) b) (Call.cancel-telemetry-request))) ⌝ }
     ensures { λ r. ⌜ ((b : Buffers) → Called (fit (now (bank .entry)) true) (Call.cancel-telemetry-request) b (now (bank .entry)) (now (bank .exit)) r) ⌝ }
 {
     commands::cancel_telemetry_request(bank)

@@ -2,7 +2,7 @@
 use mathlib.Core.Path.{_∙_, sym, ap}
 use mathlib.Core.Bool.{not}
 use Rattle.bank_slots_spec.proofs.CommandCalls.{other-long, throttles-faulted, throttles-high, throttles-stop, throttled}
-use Rattle.bank_slots_spec.proofs.CalledLaws.{state-short, called-unfit}
+use Rattle.bank_slots_spec.proofs.CalledLaws.{with-answer, state-short, called-unfit}
 use Rattle.bank_slots_spec.specs.Called.{long}
 use borrow.Author.Needs.{needs}
 use Rattle.bank_slots.proofs.commands.command_throttles.Statement.{statement}
@@ -11,12 +11,12 @@ use Rattle.bank_slots.proofs.commands.command_throttles.Tie as tie
 returns : tie.Need-returns
 returns c =
     let a = c .before .before .before .args in
-    λ b. called-unfit _ (state-short (a .bank .now) (long 4 (a .commands .now)) (c .if1 .taken))
+    with-answer (λ b. called-unfit _ (state-short (a .bank .now) (long 4 (a .commands .now)) (c .if1 .taken)))
 
 returns-2 : tie.Need-returns-2
 returns-2 c =
     let a = c .before .before .before .before .args in
-    λ b. called-unfit _ (other-long (a .bank .now) (a .commands .now) 4 (c .before .if1 .left) (c .if2 .taken))
+    with-answer (λ b. called-unfit _ (other-long (a .bank .now) (a .commands .now) 4 (c .before .if1 .left) (c .if2 .taken)))
 
 slice-read-flag : tie.Need-slice-read-flag
 slice-read-flag c = search needs
@@ -28,7 +28,7 @@ returns-3 : tie.Need-returns-3
 returns-3 c =
     let v = c .before .before .before in
     let a = v .before .before .before .before .args in
-    λ b. throttles-faulted (a .bank .now) b (v .before .if1 .left) (a .commands .now) (a .now-ms) (a .lease-duration-ms) (v .if2 .left) (sym (c .before .flag .ensures) ∙ c .if3 .taken)
+    with-answer (λ b. throttles-faulted (a .bank .now) b (v .before .if1 .left) (a .commands .now) (a .now-ms) (a .lease-duration-ms) (v .if2 .left) (sym (c .before .flag .ensures) ∙ c .if3 .taken))
 
 any-above-requires : tie.Need-any-above-requires
 any-above-requires c κs = search needs
@@ -38,8 +38,8 @@ returns-4 c =
     let u = c .before .before in
     let v = u .before .before .before in
     let a = v .before .before .before .before .args in
-    λ b. throttles-high (a .bank .now) b (v .before .if1 .left) (a .commands .now) (a .now-ms) (a .lease-duration-ms) (v .if2 .left) (sym (u .before .flag .ensures) ∙ u .if3 .left)
-    (sym (c .before .any-above .ensures) ∙ c .if4 .taken)
+    with-answer (λ b. throttles-high (a .bank .now) b (v .before .if1 .left) (a .commands .now) (a .now-ms) (a .lease-duration-ms) (v .if2 .left) (sym (u .before .flag .ensures) ∙ u .if3 .left)
+    (sym (c .before .any-above .ensures) ∙ c .if4 .taken))
 
 any-above-requires-2 : tie.Need-any-above-requires-2
 any-above-requires-2 c κs = search needs
@@ -57,8 +57,8 @@ returns-5 c =
     let u = t .before .before in
     let v = u .before .before .before in
     let a = v .before .before .before .before .args in
-    λ b. throttles-stop (a .bank .now) b (v .before .if1 .left) (a .commands .now) (a .now-ms) (a .lease-duration-ms) (v .if2 .left) (sym (u .before .flag .ensures) ∙ u .if3 .left)
-    (sym (t .before .any-above .ensures) ∙ t .if4 .left) (ap not (sym (s .before .any-above2 .ensures)) ∙ s .if5 .taken) (c .before .before .stop .ensures)
+    with-answer (λ b. throttles-stop (a .bank .now) b (v .before .if1 .left) (a .commands .now) (a .now-ms) (a .lease-duration-ms) (v .if2 .left) (sym (u .before .flag .ensures) ∙ u .if3 .left)
+    (sym (t .before .any-above .ensures) ∙ t .if4 .left) (ap not (sym (s .before .any-above2 .ensures)) ∙ s .if5 .taken) (c .before .before .stop .ensures))
 
 demand-requires : tie.Need-demand-requires
 demand-requires c κs = search needs
@@ -73,8 +73,8 @@ returns-6 c =
     let u = t .before .before in
     let v = u .before .before .before in
     let a = v .before .before .before .before .args in
-    λ b. throttled (a .bank .now) b (v .before .if1 .left) (a .commands .now) (a .now-ms) (a .lease-duration-ms) (v .if2 .left) (sym (u .before .flag .ensures) ∙ u .if3 .left)
-    (sym (t .before .any-above .ensures) ∙ t .if4 .left) (ap not (sym (s .before .any-above2 .ensures)) ∙ s .if5 .left) (c .before .before .demand .ensures)
+    with-answer (λ b. throttled (a .bank .now) b (v .before .if1 .left) (a .commands .now) (a .now-ms) (a .lease-duration-ms) (v .if2 .left) (sym (u .before .flag .ensures) ∙ u .if3 .left)
+    (sym (t .before .any-above .ensures) ∙ t .if4 .left) (ap not (sym (s .before .any-above2 .ensures)) ∙ s .if5 .left) (c .before .before .demand .ensures))
 
 pub command-throttles-spec : {M : Type 1} → statement M
 command-throttles-spec =
