@@ -20,6 +20,11 @@ pub then-given : {A B : Type 0} {y : B} (a : Answer A) (f : A → Answer B) → 
 then-given (given x) f e = (x, refl, e)
 then-given (refused n) f e = absurd (no-answer e)
 
+-- what is refused before a step that refuses nothing was refused so
+pub then-refused : {A B : Type 0} {n : ℕ} (a : Answer A) (f : A → B) → then a (λ x. given (f x)) ≡ refused n → a ≡ refused n
+then-refused (given x) f e = absurd (no-answer (sym e))
+then-refused (refused m) f e = cc
+
 -- what is given past a refusal has failed its test
 pub past : {A : Type 0} {a : Answer A} {x : A} (t : Bool) → pick t (refused notACapture) a ≡ given x → (t ≡ false) × (a ≡ given x)
 past t e = not-first t e no-answer

@@ -4,12 +4,16 @@ use mathlib.Core.Path.{_≡_, sym, ap, _∙_}
 use mathlib.Core.Bool.{true, false}
 use mathlib.Core.List.{List, [], _∷_}
 use Prim.Native.Nat.{ℕ, zero, suc, _≤_, _<_}
-use lib.Dec.{ltb}
+use native.Mathlib.Omega.{arith}
+use lib.Dec.{eqb, ltb}
 use lib.ListN.{length}
-use borrow.Author.Tests.{eq-eqb, ne-eqb, lt-ltb, le-ltb}
+use borrow.Author.Tests.{eq-eqb, ne-eqb, lt-ltb, le-ltb, ltb-false}
+use Rattle.dshot_reply_spec.proofs.Choice.{not-first, not-second}
 use Rattle.dshot_reply_spec.specs.Answer.{Answer, given, refused, then, notACapture, wrongLength, filled}
 use Rattle.capture_file.proofs.AnswerLaws.{no-answer, same-given, then-given, not-given, is-given}
 use Rattle.capture_file.proofs.AnswerLaws.{Read, found, lacking, read-then, read-pick}
+use Rattle.capture_file.proofs.HeadLaws.{head-few}
+use Rattle.capture_file.proofs.ReadBack.{file-most}
 use Rattle.capture_file.proofs.ReadLaws.{groups-start}
 use Rattle.capture_file.proofs.WriteLaws.{put-first}
 use Rattle.capture_file.specs.File.{captureSamples, captureFileBytes, readNumber, readAll, Capture, capture, Head, readHead, readFile}
@@ -53,6 +57,15 @@ file-is : (bytes xs : List ℕ) (head : Head) → readHead bytes ≡ given head 
 unfolding readFile
 file-is bytes xs head e f = rw (e, f)
 
+-- no more samples than there are slots
+pub file-few : (bytes : List ℕ) (c : Capture) → readFile bytes ≡ given c → length (c .samples) ≤ captureSamples
+unfolding readFile
+file-few bytes c e =
+    let t = then-given (readHead bytes) _ e in
+    let q = then-given (readAll (t .0 .count) (t .0 .rest)) _ (t .2) in
+    let n = ap (λ (x : Capture). length (x .samples)) (sym (same-given (q .2))) ∙ all-length (t .0 .count) (t .0 .rest) (q .0) (q .1) in
+    omega (arith, head-few bytes (t .0) (t .1))
+
 abbrev tells : ℕ → Head → Answer Told
 tells n head = given (record { count = n; mask = head .mask; edt = head .edt })
 
@@ -68,6 +81,11 @@ module _ (bytes slots : List ℕ) where
   pub wrong-slots : (length slots ≡ captureSamples → ⊥) → ReadSo bytes slots (refused wrongLength) slots
   unfolding readInto
   wrong-slots h = refused-so wrongLength (rw (ne-eqb (length slots) captureSamples h))
+
+  -- what is read into slots is what the file holds
+  pub into-given : (c : Capture) → readInto bytes slots ≡ given c → readFile bytes ≡ given c
+  unfolding readInto
+  into-given c e = not-second (eqb (length slots) captureSamples) e no-answer .1
 
   module _ (h : length slots ≡ captureSamples) where
     pub into-is : readInto bytes slots ≡ readFile bytes
@@ -124,3 +142,13 @@ module _ (c : Capture) (out : List ℕ) where
     all-written l e f =
         let so = written-so (given (fileOf c)) (rw (few, eq-eqb (length out) captureFileBytes l)) in
         (ap given e ∙ so .0, f ∙ put-first (fileOf c) out ∙ so .1)
+
+-- a length that is answered is one of a file
+pub written-fits : (c : Capture) (out : List ℕ) (n : ℕ) → given n ≡ then (writtenInto c out) byteCount → n ≤ captureFileBytes
+unfolding writtenInto
+written-fits c out n e =
+    let w = then-given (writtenInto c out) byteCount (sym e) in
+    let p = not-first (ltb captureSamples (length (c .samples))) (w .1) no-answer in
+    let q = not-second (eqb (length out) captureFileBytes) (p .1) no-answer in
+    let few = ltb-false captureSamples (length (c .samples)) (p .0) in
+    omega (arith, file-most c few, ap length (same-given (q .1)), same-given (w .2))

@@ -8,9 +8,11 @@ pub mod WriteLaws
 pub mod SampleLaws
 pub mod HeadLaws
 pub mod CallLaws
+pub mod ListLaws
 pub mod Examples
 pub mod DigitLaws
 pub mod LineLaws
 pub mod DigitsBack
 pub mod Listing
+pub mod FileLine
 pub mod FixedLines

@@ -4,4 +4,6 @@
 pub mod file;
 // The line of a capture.
 pub mod line;
+// The line of a file.
+pub mod list;
 mod number;

@@ -10,17 +10,10 @@ use dshot::read::FrameRead;
 ghost use mathlib.Core.Path.{_≡_};
 ghost use lib.ListN.{length};
 ghost use Rattle.dshot_reply_spec.specs.Answer.{refusalNumber, filled};
-ghost use Rattle.dshot_spec.specs.Packet.{flag};
 ghost use Rattle.dshot_spec.specs.Sequence.{readSequence};
 ghost use Rattle.dshot.specs.Answers.{kindOf, frameAnswer};
 ghost use Rattle.kuzhenga.specs.Slots.{asked};
 ghost use Rattle.kuzhenga.specs.FrameSlots.{timingAt, kindNumber, frameSlots, readWide};
-
-fn flag_of(set: bool) -> u16
-    ensures { λ r. ⌜ r ≡ flag set ⌝ }
-{
-    if set { 1 } else { 0 }
-}
 
 fn kind_of(checksum: ChecksumKind) -> u16
     ensures { λ r. ⌜ r ≡ kindNumber (kindOf checksum) ⌝ }
@@ -44,7 +37,7 @@ fn put_frame(answer: FrameRead, out: &mut [u16]) -> u32
             checksum,
         } => {
             out[0] = value;
-            out[1] = flag_of(telemetry);
+            out[1] = slots::flag_of(telemetry);
             out[2] = kind_of(checksum);
             0
         }

@@ -7,6 +7,8 @@
 
 // A bank, its state in lent slots.
 pub mod bank;
+// Capture files and the bench's line.
+pub mod capture;
 // Throttles, command runs and leases.
 pub mod command;
 // Packets and sequences, read.

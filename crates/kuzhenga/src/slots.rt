@@ -1,12 +1,20 @@
-// Added: four slots as values or as a timing, and four numbers put into slots, for the exported calls.
+// Added: four slots as values or as a timing, and a flag, four numbers and bytes for slots, for the exported calls.
 
 use dshot::DshotTiming;
 use dshot::MotorValues;
 ghost use mathlib.Core.Path.{_≡_};
 ghost use mathlib.Core.List.{[], _∷_};
 ghost use lib.ListN.{length};
+ghost use Rattle.dshot_spec.specs.Packet.{flag};
 ghost use Rattle.dshot.specs.Answers.{timingOf};
 ghost use Rattle.kuzhenga.specs.FrameSlots.{timingAt};
+
+// A flag in a slot.
+pub(crate) fn flag_of(set: bool) -> u16
+    ensures { λ r. ⌜ r ≡ flag set ⌝ }
+{
+    if set { 1 } else { 0 }
+}
 
 // Four slots as the values of the motors.
 pub(crate) fn four_values(slots: &[u16]) -> MotorValues
@@ -37,5 +45,17 @@ pub(crate) fn timing_at(slots: &[u16]) -> DshotTiming
         zero_high: slots[1],
         one_high: slots[2],
         reply_sample_arr: slots[3],
+    }
+}
+
+// Fills a buffer with as many bytes.
+pub(crate) fn put_bytes(out: &mut [u8], bytes: &[u8])
+    requires { ⌜ length (now out) ≡ length (now bytes) ⌝ }
+    ensures { λ r. ⌜ now (out .exit) ≡ now (bytes .entry) ⌝ }
+{
+    let mut i = 0;
+    while i < bytes.len() {
+        out[i] = bytes[i];
+        i += 1;
     }
 }

@@ -1,0 +1,15 @@
+-- The line that the bench prints for a capture file (document 01, "The bench's line"): from its bytes to the line's.
+-- Assumes nothing.
+use Prim.Native.Nat.{ℕ}
+use mathlib.Core.List.{List}
+use Rattle.dshot_reply_spec.specs.Answer.{Answer, then}
+use Rattle.capture_file.specs.File.{Capture, readFile}
+use Rattle.capture_file.specs.Line.{Listed, listedOf, lineOf}
+
+-- what is told of a capture
+unfoldable pub listedCapture : Capture → Answer Listed
+listedCapture c = listedOf (c .samples) (c .mask) (c .edt)
+
+-- a file that holds no capture is refused before any reading
+unfoldable pub fileLine : List ℕ → List ℕ
+fileLine bytes = lineOf (then (readFile bytes) listedCapture)

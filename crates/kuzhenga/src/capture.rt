@@ -1,0 +1,97 @@
+// Added: the exported calls on capture files and the bench's line. They wrap those of the crate `capture_file`.
+//
+// The samples of a file take 4096 slots, a file 12294 bytes, and a line 32 bytes. More than 4096 samples are a lent buffer of the wrong length.
+
+use crate::slots;
+use capture_file::file::CaptureRead;
+use capture_file::file::CaptureWritten;
+use capture_file::line::LINE_ROOM;
+ghost use mathlib.Core.Path.{_≡_};
+ghost use mathlib.Core.Bool.{not};
+ghost use Prim.Native.Nat.{_%_};
+ghost use lib.Dec.{eqb};
+ghost use Rattle.dshot_reply_spec.specs.Answer.{given, refusalNumber, filled};
+ghost use Rattle.capture_file.specs.File.{capture, front, slotsOf, readInto, writtenInto};
+ghost use Rattle.capture_file.specs.Listing.{fileLine};
+ghost use Rattle.kuzhenga.specs.Slots.{asked};
+ghost use Rattle.kuzhenga.specs.CaptureSlots.{captureSlots, countSlot, lineBytes};
+
+// Reads a file. Its samples are put into the first of the slots, and how many they are, the mask and EDT (0 or 1) into three.
+#[no_mangle]
+pub extern "C" fn kuzhenga_read_capture(
+    file: &[u8],
+    samples: &mut [u16],
+    capture: &mut [u16],
+) -> u32
+    ensures { λ r. ⌜ r ≡ refusalNumber (asked 3 (now (capture .entry)) (readInto (now (file .entry)) (now (samples .entry)))) ⌝ }
+    ensures { λ r. ⌜ now (samples .exit) ≡ filled (slotsOf (now (samples .entry))) (now (samples .entry)) (asked 3 (now (capture .entry)) (readInto (now (file .entry)) (now (samples .entry)))) ⌝ }
+    ensures { λ r. ⌜ now (capture .exit) ≡ filled captureSlots (now (capture .entry)) (asked 3 (now (capture .entry)) (readInto (now (file .entry)) (now (samples .entry)))) ⌝ }
+{
+    if capture.len() != 3 {
+        return 13;
+    }
+    match capture_file::file::read_capture(file, samples) {
+        CaptureRead::Capture {
+            count,
+            mask,
+            extended_telemetry,
+        } => {
+            capture[0] = count as u16;
+            capture[1] = mask;
+            capture[2] = slots::flag_of(extended_telemetry);
+            0
+        }
+        CaptureRead::NotACapture => 17,
+        CaptureRead::WrongLength => 13,
+    }
+}
+
+// Writes the file of a capture at the front of a buffer, and its length into one slot; of the mask the low sixteen bits count.
+#[no_mangle]
+pub extern "C" fn kuzhenga_write_capture(
+    samples: &[u16],
+    pin_mask: u32,
+    extended_telemetry: u32,
+    file: &mut [u8],
+    length: &mut [u16],
+) -> u32
+    ensures { λ r. ⌜ r ≡ refusalNumber (asked 1 (now (length .entry)) (writtenInto (capture («pin_mask» % 65536) (not (eqb «extended_telemetry» 0)) (now (samples .entry))) (now (file .entry)))) ⌝ }
+    ensures { λ r. ⌜ now (file .exit) ≡ filled (front (now (file .entry))) (now (file .entry)) (asked 1 (now (length .entry)) (writtenInto (capture («pin_mask» % 65536) (not (eqb «extended_telemetry» 0)) (now (samples .entry))) (now (file .entry)))) ⌝ }
+    ensures { λ r. ⌜ now (length .exit) ≡ filled countSlot (now (length .entry)) (asked 1 (now (length .entry)) (writtenInto (capture («pin_mask» % 65536) (not (eqb «extended_telemetry» 0)) (now (samples .entry))) (now (file .entry)))) ⌝ }
+{
+    if length.len() != 1 {
+        return 13;
+    }
+    match capture_file::file::write_capture(
+        samples,
+        (pin_mask % 65536) as u16,
+        extended_telemetry != 0,
+        file,
+    ) {
+        CaptureWritten::Length(bytes) => {
+            length[0] = bytes as u16;
+            0
+        }
+        CaptureWritten::WrongLength => 13,
+    }
+}
+
+// The line of a file with zeros after it, and its length in one slot. A file that holds no capture has the line `refused 17`: the call is done.
+#[no_mangle]
+pub extern "C" fn kuzhenga_list_capture(file: &[u8], line: &mut [u8], length: &mut [u16]) -> u32
+    ensures { λ r. ⌜ r ≡ refusalNumber (asked 32 (now (line .entry)) (asked 1 (now (length .entry)) (given (fileLine (now (file .entry)))))) ⌝ }
+    ensures { λ r. ⌜ now (line .exit) ≡ filled lineBytes (now (line .entry)) (asked 32 (now (line .entry)) (asked 1 (now (length .entry)) (given (fileLine (now (file .entry)))))) ⌝ }
+    ensures { λ r. ⌜ now (length .exit) ≡ filled countSlot (now (length .entry)) (asked 32 (now (line .entry)) (asked 1 (now (length .entry)) (given (fileLine (now (file .entry)))))) ⌝ }
+{
+    if line.len() != LINE_ROOM {
+        return 13;
+    }
+    if length.len() != 1 {
+        return 13;
+    }
+    let made = capture_file::list::file_line(file);
+    let bytes = made.bytes;
+    length[0] = made.length as u16;
+    slots::put_bytes(line, &bytes);
+    0
+}
