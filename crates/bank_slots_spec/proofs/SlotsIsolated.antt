@@ -1,5 +1,5 @@
--- Demand 3 of lists of exported calls on one state slice: each call shows what the bank's own call does, and one lane's captures change nothing
--- but that lane's replies and reply counts.
+-- Demand 3 of lists of exported calls on one state slice: each call shows what the bank's own call does, looks change nothing, and one lane's
+-- captures change nothing but that lane's replies and reply counts.
 -- Assumes nothing.
 use mathlib.Core.Path.{_≡_, _∙_, refl, sym, ap}
 use mathlib.Core.Bool.{Bool, true, false}
@@ -7,62 +7,140 @@ use mathlib.Core.List.{List, [], _∷_, map}
 use Prim.Native.Nat.{ℕ}
 use Rattle.dshot_reply_spec.specs.Answer.{pick, wrongLength}
 use Rattle.dshot_bank_spec.specs.State.{Bank, Buffers}
-use Rattle.dshot_bank_spec.specs.Calls.{Call, refused, State, Stepped, told, step}
-use Rattle.dshot_bank_spec.specs.Lists.{Alike, hide, hideState, run}
+use Rattle.dshot_bank_spec.specs.Calls.{Call, Answer, done, refused, motor-sent, serviced, interrupted, replied, flag, counts, values, reply-counts, slots, State, Stepped, told, step}
+use Rattle.dshot_bank_spec.specs.Lists.{Alike, hide, hideAnswer, hideState, isLook, run, trace}
 use Rattle.dshot_bank_spec.proofs.Isolation.{step-alike}
+use Rattle.dshot_bank_spec.proofs.Refusals.{looks-keep}
 use Rattle.bank_slots_spec.specs.Layout.{load}
-use Rattle.bank_slots_spec.specs.Called.{Called, stateAt, answerOf, bankAfter, buffersAfter}
-use Rattle.bank_slots_spec.specs.SlotLists.{Made, made, madeTrace, madeRun, fitting, Ran, none-left, one-more, MadeAlike, both-end, both-more, SlotsIsolated}
+use Rattle.bank_slots_spec.specs.Called.{Called, number, stateAt, answerOf, bankAfter, buffersAfter}
+use Rattle.bank_slots_spec.specs.Outs.{outAfter}
+use Rattle.bank_slots_spec.specs.SlotLists.{Made, made, madeTrace, madeRun, Shown, shownBy, shownAll, fitting, fittingOf, actingMade, actingMadeOf, Ran, none-left, one-more, MadeAlike, both-end, both-more, SlotsIsolated}
+
+-- ---- what is shown
 
 -- what is promised of a call is what `made` says of the loaded state
-shown : (fits : Bool) (call : Call) (s : State) → _≡_ {A = Stepped} (record { answer = answerOf fits s call; state = record { bank = bankAfter fits s call; buffers = buffersAfter fits s call } }) (made s (record { fits = fits; call = call }))
+shown : (fits : Bool) (call : Call) (out : List ℕ) (s : State)
+    → _≡_ {A = Stepped} (record { answer = answerOf fits s call; state = record { bank = bankAfter fits s call; buffers = buffersAfter fits s call } }) (made s (record { fits = fits; call = call; out = out }))
 unfolding answerOf bankAfter buffersAfter
-shown true call s = refl
-shown false call s = refl
+shown true call out s = refl
+shown false call out s = refl
 
 one-shown : {xs ys : List ℕ} {b b′ : Buffers} {r : ℕ} (m : Made) → Called (m .fits) (m .call) b xs ys r → b′ ≡ buffersAfter (m .fits) (stateAt xs b) (m .call)
     → _≡_ {A = Stepped} (record { answer = answerOf (m .fits) (stateAt xs b) (m .call); state = stateAt ys b′ }) (made (stateAt xs b) m)
 one-shown {xs} {b = b} m c e =
-    (λ j. record { answer = answerOf (m .fits) (stateAt xs b) (m .call); state = record { bank = c .bank j; buffers = e j } }) ∙ shown (m .fits) (m .call) (stateAt xs b)
+    (λ j. record { answer = answerOf (m .fits) (stateAt xs b) (m .call); state = record { bank = c .bank j; buffers = e j } })
+    ∙ shown (m .fits) (m .call) (m .out) (stateAt xs b)
 
-traced : {xs : List ℕ} {b : Buffers} {ms : List Made} {rs : List Stepped} → Ran xs b ms rs → rs ≡ madeTrace (stateAt xs b) ms
+traced : {xs : List ℕ} {b : Buffers} {ms : List Made} {rs : List Shown} → Ran xs b ms rs → rs ≡ shownAll ms (madeTrace (stateAt xs b) ms)
 traced none-left = refl
-traced (one-more {m = m} {ms = ms} c e rest) =
+traced (one-more {ys = ys} {b′ = b′} {m = m} {ms = ms} c e o rest) =
     let h = one-shown m c e in
-    λ j. h j ∷ (traced rest ∙ ap (λ (t : Stepped). madeTrace (t .state) ms) h) j
+    (λ j. record { returned = c .answer j; answer = o j; state = stateAt ys b′ } ∷ traced rest j)
+    ∙ ap (λ (t : Stepped). shownBy m t ∷ shownAll ms (madeTrace (t .state) ms)) h
 
--- ---- what a list leaves
+-- ---- the calls that fit
 
-one-left : (s : State) (m : Made) (ms : List Made) (fits : Bool) → m .fits ≡ fits → ((t : State) → madeRun t ms ≡ run 4 t (fitting ms))
+one-fitted : (s : State) (m : Made) (ms : List Made) (fits : Bool) → ((t : State) → fittingOf ms (madeTrace t ms) ≡ trace 4 t (fitting ms))
+    → pick fits (pick fits (step 4 s (m .call)) (told s (refused wrongLength)) ∷ fittingOf ms (madeTrace (pick fits (step 4 s (m .call)) (told s (refused wrongLength)) .state) ms))
+    (fittingOf ms (madeTrace (pick fits (step 4 s (m .call)) (told s (refused wrongLength)) .state) ms))
+    ≡ trace 4 s (pick fits (m .call ∷ fitting ms) (fitting ms))
+one-fitted s m ms true h = ap (λ (l : List Stepped). step 4 s (m .call) ∷ l) (h (step 4 s (m .call) .state))
+one-fitted s m ms false h = h s
+
+fitted : (s : State) (ms : List Made) → fittingOf ms (madeTrace s ms) ≡ trace 4 s (fitting ms)
+fitted s [] = refl
+fitted s (m ∷ ms) = one-fitted s m ms (m .fits) (λ t. fitted t ms)
+
+one-left : (s : State) (m : Made) (ms : List Made) (fits : Bool) → ((t : State) → madeRun t ms ≡ run 4 t (fitting ms))
     → madeRun (pick fits (step 4 s (m .call)) (told s (refused wrongLength)) .state) ms ≡ run 4 s (pick fits (m .call ∷ fitting ms) (fitting ms))
-one-left s m ms true e h = h (step 4 s (m .call) .state)
-one-left s m ms false e h = h s
+one-left s m ms true h = h (step 4 s (m .call) .state)
+one-left s m ms false h = h s
 
 left : (s : State) (ms : List Made) → madeRun s ms ≡ run 4 s (fitting ms)
 left s [] = refl
-left s (m ∷ ms) = one-left s m ms (m .fits) refl (λ t. left t ms)
+left s (m ∷ ms) = one-left s m ms (m .fits) (λ t. left t ms)
+
+-- ---- looks
+
+-- a look leaves the state, whether or not its slices fit
+made-keeps : (s : State) (m : Made) → isLook (m .call) ≡ true → made s m .state ≡ s
+made-keeps s m e = side (m .fits)
+  where
+    side : (fits : Bool) → pick fits (step 4 s (m .call)) (told s (refused wrongLength)) .state ≡ s
+    side true = looks-keep 4 s (m .call) e
+    side false = refl
+
+one-look : (s : State) (m : Made) (ms : List Made) (b : Bool) → isLook (m .call) ≡ b → ((t : State) → madeTrace t (actingMade ms) ≡ actingMadeOf ms (madeTrace t ms))
+    → madeTrace s (pick b (actingMade ms) (m ∷ actingMade ms)) ≡ pick b (actingMadeOf ms (madeTrace (made s m .state) ms)) (made s m ∷ actingMadeOf ms (madeTrace (made s m .state) ms))
+one-look s m ms true e h = h s ∙ ap (λ (t : State). actingMadeOf ms (madeTrace t ms)) (sym (made-keeps s m e))
+one-look s m ms false e h = ap (λ (l : List Stepped). made s m ∷ l) (h (made s m .state))
+
+looks : (s : State) (ms : List Made) → madeTrace s (actingMade ms) ≡ actingMadeOf ms (madeTrace s ms)
+looks s [] = refl
+looks s (m ∷ ms) = one-look s m ms (isLook (m .call)) refl (λ t. looks t ms)
+
+-- a look's promise, which speaks of its answer alone, is a call that leaves every slot
+pub look-called : {fits : Bool} {call : Call} {b : Buffers} (xs : List ℕ) {r : ℕ} → isLook call ≡ true → r ≡ number (answerOf fits (stateAt xs b) call) → Called fits call b xs xs r
+unfolding bankAfter
+look-called {fits} {call} {b} xs l e = record { answer = e; bank = sym (kept fits); stays = λ _. refl; written = λ w. w }
+  where
+    kept : (f : Bool) → bankAfter f (stateAt xs b) call ≡ load xs
+    kept true = ap (λ (s : State). s .bank) (looks-keep 4 (stateAt xs b) call l)
+    kept false = refl
 
 -- ---- one lane's captures
 
-made-alike : (lane : ℕ) (fits : Bool) {c c′ : Call} → Alike lane c c′ → (s s′ : State) → hideState lane s ≡ hideState lane s′
-    → hide lane (made s (record { fits = fits; call = c })) ≡ hide lane (made s′ (record { fits = fits; call = c′ }))
-made-alike lane true h s s′ e = step-alike 4 lane h s s′ e
-made-alike lane false h s s′ e = λ j. record { answer = refused wrongLength; state = e j }
+made-alike : (lane : ℕ) (fits : Bool) (out : List ℕ) {c c′ : Call} → Alike lane c c′ → (s s′ : State) → hideState lane s ≡ hideState lane s′
+    → hide lane (made s (record { fits = fits; call = c; out = out })) ≡ hide lane (made s′ (record { fits = fits; call = c′; out = out }))
+made-alike lane true out h s s′ e = step-alike 4 lane h s s′ e
+made-alike lane false out h s s′ e = λ j. record { answer = refused wrongLength; state = e j }
 
 trace-alike : (lane : ℕ) {ms ms′ : List Made} → MadeAlike lane ms ms′ → (s s′ : State) → hideState lane s ≡ hideState lane s′
     → map (hide lane) (madeTrace s ms) ≡ map (hide lane) (madeTrace s′ ms′)
 trace-alike lane both-end s s′ e = refl
-trace-alike lane (both-more {fits = fits} {c = c} {c′ = c′} {ms = ms} {ms′ = ms′} a rest) s s′ e =
-    let h = made-alike lane fits a s s′ e in
-    let t = trace-alike lane rest (made s (record { fits = fits; call = c }) .state) (made s′ (record { fits = fits; call = c′ }) .state) (ap (λ (r : Stepped). r .state) h) in
+trace-alike lane (both-more {fits = fits} {out = out} {c = c} {c′ = c′} {ms = ms} {ms′ = ms′} a rest) s s′ e =
+    let h = made-alike lane fits out a s s′ e in
+    let t = trace-alike lane rest (made s (record { fits = fits; call = c; out = out }) .state) (made s′ (record { fits = fits; call = c′; out = out }) .state) (ap (λ (r : Stepped). r .state) h) in
     λ j. h j ∷ t j
+
+captures : (lane : ℕ) (xs xs′ : List ℕ) (b : Buffers) {ms ms′ : List Made} → load xs ≡ load xs′ → MadeAlike lane ms ms′
+    → map (hide lane) (madeTrace (stateAt xs b) ms) ≡ map (hide lane) (madeTrace (stateAt xs′ b) ms′)
+captures lane xs xs′ b e a = trace-alike lane a (stateAt xs b) (stateAt xs′ b) (ap (λ (k : Bank). hideState lane (record { bank = k; buffers = b })) e)
+
+-- what is hidden is no refusal's number
+hidden-number : (lane : ℕ) (a : Answer) → number (hideAnswer lane a) ≡ number a
+hidden-number lane done = refl
+hidden-number lane (refused n) = refl
+hidden-number lane (motor-sent m) = refl
+hidden-number lane (serviced e o) = refl
+hidden-number lane (interrupted e o) = refl
+hidden-number lane (replied r) = refl
+hidden-number lane (flag b) = refl
+hidden-number lane (counts s) = refl
+hidden-number lane (values v) = refl
+hidden-number lane (reply-counts r) = refl
+hidden-number lane (slots l) = refl
+
+-- the numbers that are returned, told by the trace with a lane hidden
+numbers : (lane : ℕ) (s : State) (ms : List Made) → map (λ (r : Shown). r .returned) (shownAll ms (madeTrace s ms)) ≡ map (λ (r : Stepped). number (r .answer)) (map (hide lane) (madeTrace s ms))
+numbers lane s [] = refl
+numbers lane s (m ∷ ms) = λ j. sym (hidden-number lane (made s m .answer)) j ∷ numbers lane (made s m .state) ms j
+
+returns : (lane : ℕ) {xs xs′ : List ℕ} {b : Buffers} {ms ms′ : List Made} {rs rs′ : List Shown} → load xs ≡ load xs′ → MadeAlike lane ms ms′
+    → Ran xs b ms rs → Ran xs′ b ms′ rs′ → map (λ (r : Shown). r .returned) rs ≡ map (λ (r : Shown). r .returned) rs′
+returns lane {xs} {xs′} {b} {ms} {ms′} e a p q =
+    ap (map (λ (r : Shown). r .returned)) (traced p)
+    ∙ numbers lane (stateAt xs b) ms
+    ∙ ap (map (λ (r : Stepped). number (r .answer))) (captures lane xs xs′ b e a)
+    ∙ sym (numbers lane (stateAt xs′ b) ms′)
+    ∙ sym (ap (map (λ (r : Shown). r .returned)) (traced q))
 
 pub slots-isolated : SlotsIsolated
 slots-isolated = record {
   traced = traced;
+  fitted = fitted;
   left = left;
-  captures = λ lane {xs} {xs′} {b} {ms} {ms′} e a p q.
-      ap (map (hide lane)) (traced p)
-      ∙ trace-alike lane a (stateAt xs b) (stateAt xs′ b) (ap (λ (k : Bank). hideState lane (record { bank = k; buffers = b })) e)
-      ∙ sym (ap (map (hide lane)) (traced q));
+  looks = looks;
+  captures = captures;
+  returns = returns;
 }

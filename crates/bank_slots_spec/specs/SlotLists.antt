@@ -8,14 +8,17 @@ use Rattle.dshot_reply_spec.specs.Answer.{pick, wrongLength}
 use Rattle.dshot_bank_spec.specs.Lanes.{if_then_else_}
 use Rattle.dshot_bank_spec.specs.State.{Buffers}
 use Rattle.dshot_bank_spec.specs.Calls.{Call, Answer, refused, State, Stepped, told, step}
-use Rattle.dshot_bank_spec.specs.Lists.{Alike, hide, run}
+use Rattle.dshot_bank_spec.specs.Lists.{Alike, hide, isLook, run, trace}
 use Rattle.bank_slots_spec.specs.Layout.{load}
-use Rattle.bank_slots_spec.specs.Called.{Called, stateAt, answerOf, buffersAfter}
+use Rattle.bank_slots_spec.specs.Called.{Called, number, stateAt, answerOf, buffersAfter}
+use Rattle.bank_slots_spec.specs.Outs.{outAfter}
 
--- a call from C: whether the slices that are lent for the state, for arguments and for the answer have the right lengths, and the bank's call
+-- a call from C: whether the slices that are lent for the state, for arguments and for the answer have the right lengths, the bank's call, and what
+-- the slots that are lent for the answer hold before it (none, where the call asks for none)
 pub record Made : Type 0 where
   pub fits : Bool
   pub call : Call
+  pub out : List ℕ
 
 -- what such a call answers and leaves: a step of the bank, or 13
 abbrev pub made : State → Made → Stepped
@@ -31,34 +34,71 @@ abbrev pub madeRun : State → List Made → State
 madeRun s [] = s
 madeRun s (m ∷ ms) = madeRun (made s m .state) ms
 
--- the bank's calls among them: those whose slices fit
+-- what a host is shown by a call: the number that it returns, the slots of its answer, and the bank in the slots with the buffers
+pub record Shown : Type 0 where
+  pub returned : ℕ
+  pub answer : List ℕ
+  pub state : State
+
+abbrev pub shownBy : Made → Stepped → Shown
+shownBy m r = record { returned = number (r .answer); answer = outAfter (r .answer) (m .out); state = r .state }
+
+abbrev pub shownAll : List Made → List Stepped → List Shown
+shownAll [] rs = []
+shownAll (m ∷ ms) [] = []
+shownAll (m ∷ ms) (r ∷ rs) = shownBy m r ∷ shownAll ms rs
+
+-- a list of exported calls as it went: each as it is promised, on the slots and buffers that the one before left, with what it showed
+pub data Ran : List ℕ → Buffers → List Made → List Shown → Type 0 where
+  none-left : {xs : List ℕ} {b : Buffers} → Ran xs b [] []
+  one-more : {xs ys out : List ℕ} {b b′ : Buffers} {m : Made} {ms : List Made} {r : ℕ} {rest : List Shown}
+      → Called (m .fits) (m .call) b xs ys r
+      → b′ ≡ buffersAfter (m .fits) (stateAt xs b) (m .call)
+      → out ≡ outAfter (answerOf (m .fits) (stateAt xs b) (m .call)) (m .out)
+      → Ran ys b′ ms rest
+      → Ran xs b (m ∷ ms) (record { returned = r; answer = out; state = stateAt ys b′ } ∷ rest)
+
+-- ---- parts of a list
+
+-- the bank's calls among them, those whose slices fit, and their part of a trace
 abbrev pub fitting : List Made → List Call
 fitting [] = []
 fitting (m ∷ ms) = pick (m .fits) (m .call ∷ fitting ms) (fitting ms)
 
--- a list of exported calls as it went: each as it is promised, on the slots and buffers that the one before left; what each answered, and the bank
--- in the slots with the buffers after it
-pub data Ran : List ℕ → Buffers → List Made → List Stepped → Type 0 where
-  none-left : {xs : List ℕ} {b : Buffers} → Ran xs b [] []
-  one-more : {xs ys : List ℕ} {b b′ : Buffers} {m : Made} {ms : List Made} {r : ℕ} {rest : List Stepped}
-      → Called (m .fits) (m .call) b xs ys r
-      → b′ ≡ buffersAfter (m .fits) (stateAt xs b) (m .call)
-      → Ran ys b′ ms rest
-      → Ran xs b (m ∷ ms) (record { answer = answerOf (m .fits) (stateAt xs b) (m .call); state = stateAt ys b′ } ∷ rest)
+abbrev pub fittingOf : List Made → List Stepped → List Stepped
+fittingOf [] rs = []
+fittingOf (m ∷ ms) [] = []
+fittingOf (m ∷ ms) (r ∷ rs) = pick (m .fits) (r ∷ fittingOf ms rs) (fittingOf ms rs)
+
+-- a list without its calls that only look, and what is left of its trace
+abbrev pub actingMade : List Made → List Made
+actingMade [] = []
+actingMade (m ∷ ms) = pick (isLook (m .call)) (actingMade ms) (m ∷ actingMade ms)
+
+abbrev pub actingMadeOf : List Made → List Stepped → List Stepped
+actingMadeOf [] rs = []
+actingMadeOf (m ∷ ms) [] = []
+actingMadeOf (m ∷ ms) (r ∷ rs) = pick (isLook (m .call)) (actingMadeOf ms rs) (r ∷ actingMadeOf ms rs)
 
 -- two lists alike but in one lane's captures
 pub data MadeAlike (lane : ℕ) : List Made → List Made → Type 0 where
   both-end : MadeAlike lane [] []
-  both-more : {fits : Bool} {c c′ : Call} {ms ms′ : List Made} → Alike lane c c′ → MadeAlike lane ms ms′
-      → MadeAlike lane (record { fits = fits; call = c } ∷ ms) (record { fits = fits; call = c′ } ∷ ms′)
+  both-more : {fits : Bool} {out : List ℕ} {c c′ : Call} {ms ms′ : List Made} → Alike lane c c′ → MadeAlike lane ms ms′
+      → MadeAlike lane (record { fits = fits; call = c; out = out } ∷ ms) (record { fits = fits; call = c′; out = out } ∷ ms′)
 
--- what carries over to exported calls on one state slice, whatever it held at the start
+-- ---- what carries over to exported calls on one state slice, whatever it held at the start
+
 pub record SlotsIsolated : Type 0 where
-  -- each call answers, and leaves in the slots, what the bank's own call does: so the claims about lists of the bank's calls hold of these
-  pub traced : {xs : List ℕ} {b : Buffers} {ms : List Made} {rs : List Stepped} → Ran xs b ms rs → rs ≡ madeTrace (stateAt xs b) ms
-  -- and the state that a list leaves is the one that the bank's calls among them leave
+  -- each call returns, puts into the slots of its answer and leaves what the bank's own call answers and leaves
+  pub traced : {xs : List ℕ} {b : Buffers} {ms : List Made} {rs : List Shown} → Ran xs b ms rs → rs ≡ shownAll ms (madeTrace (stateAt xs b) ms)
+  -- those whose slices fit are a list of the bank's calls, so that all claims about such lists hold of them; the others are refused and change nothing
+  pub fitted : (s : State) (ms : List Made) → fittingOf ms (madeTrace s ms) ≡ trace 4 s (fitting ms)
   pub left : (s : State) (ms : List Made) → madeRun s ms ≡ run 4 s (fitting ms)
+  -- calls that only look change nothing, wherever they stand
+  pub looks : (s : State) (ms : List Made) → madeTrace s (actingMade ms) ≡ actingMadeOf ms (madeTrace s ms)
   -- two lists alike but in one lane's captures, from slots that hold the same bank: after each call the same answer, bank and buffers, with that
-  -- lane's reply and reply counts hidden
-  pub captures : (lane : ℕ) {xs xs′ : List ℕ} {b : Buffers} {ms ms′ : List Made} {rs rs′ : List Stepped} → load xs ≡ load xs′ → MadeAlike lane ms ms′
-      → Ran xs b ms rs → Ran xs′ b ms′ rs′ → map (hide lane) rs ≡ map (hide lane) rs′
+  -- lane's reply and reply counts hidden, and the same number returned
+  pub captures : (lane : ℕ) (xs xs′ : List ℕ) (b : Buffers) {ms ms′ : List Made} → load xs ≡ load xs′ → MadeAlike lane ms ms′
+      → map (hide lane) (madeTrace (stateAt xs b) ms) ≡ map (hide lane) (madeTrace (stateAt xs′ b) ms′)
+  pub returns : (lane : ℕ) {xs xs′ : List ℕ} {b : Buffers} {ms ms′ : List Made} {rs rs′ : List Shown} → load xs ≡ load xs′ → MadeAlike lane ms ms′
+      → Ran xs b ms rs → Ran xs′ b ms′ rs′ → map (λ (r : Shown). r .returned) rs ≡ map (λ (r : Shown). r .returned) rs′
