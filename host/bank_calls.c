@@ -172,9 +172,9 @@ static int on_dma_interrupt(struct kept *kept, const struct line *line, struct o
 /* 0 where none are held, else 1 and for each lane the refusal, the kind and the number. */
 static int take_replies(struct kept *kept, const struct line *line, struct outcome *outcome)
 {
-    uint16_t taken[KUZHENGA_TAKEN_SLOTS];
+    uint16_t taken[KUZHENGA_REPLIES_SLOTS];
     (void)line;
-    must(kuzhenga_bank_take_replies(BANK, taken, KUZHENGA_TAKEN_SLOTS));
+    must(kuzhenga_bank_take_replies(BANK, taken, KUZHENGA_REPLIES_SLOTS));
     answer(outcome, taken[0]);
     for (size_t lane = 0; taken[0] != 0 && lane < KUZHENGA_LANES; lane++) {
         const uint16_t *reply = taken + 1 + 4 * lane;

@@ -296,7 +296,7 @@ static void bank_cycle(void)
     bank = lend(KUZHENGA_BANK_SLOTS, 2), out = lend(KUZHENGA_INTERRUPT_SLOTS, 2);
     check("bank_on_dma_interrupt", kuzhenga_bank_on_dma_interrupt(SLOTS(bank), lane(), number(), below(2), number(),
                                                                   number(), SLOTS(out)), B(12) | B(13));
-    bank = lend(KUZHENGA_BANK_SLOTS, 2), out = lend(KUZHENGA_TAKEN_SLOTS, 2);
+    bank = lend(KUZHENGA_BANK_SLOTS, 2), out = lend(KUZHENGA_REPLIES_SLOTS, 2);
     check("bank_take_replies", kuzhenga_bank_take_replies(SLOTS(bank), SLOTS(out)), B(13));
 }
 

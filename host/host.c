@@ -102,15 +102,15 @@ static uint32_t answer_all(void)
 
 static uint32_t print_replies(void)
 {
-    uint16_t taken[KUZHENGA_TAKEN_SLOTS], counts[KUZHENGA_REPLY_STATS_SLOTS];
-    uint32_t r = kuzhenga_bank_take_replies(bank, KUZHENGA_BANK_SLOTS, taken, KUZHENGA_TAKEN_SLOTS);
+    uint16_t taken[KUZHENGA_REPLIES_SLOTS], counts[KUZHENGA_REPLY_STATS_SLOTS];
+    uint32_t r = kuzhenga_bank_take_replies(bank, KUZHENGA_BANK_SLOTS, taken, KUZHENGA_REPLIES_SLOTS);
     if (r != KUZHENGA_DONE)
         return r;
     r = kuzhenga_bank_reply_stats(bank, KUZHENGA_BANK_SLOTS, counts, KUZHENGA_REPLY_STATS_SLOTS);
     if (r != KUZHENGA_DONE)
         return r;
     for (unsigned i = 0; i < KUZHENGA_LANES; i++) {
-        const uint16_t *reply = taken + 1 + 4 * i;
+        const uint16_t *reply = kuzhenga_taken_reply(taken, i);
         if (reply[0] != 0)
             printf("lane %u: refused %u\n", i, reply[0]);
         else

@@ -76,7 +76,7 @@ enum {
     KUZHENGA_INTERRUPT_SLOTS = 9,   /* what an interrupt answers */
     KUZHENGA_STATS_SLOTS = 22,
     KUZHENGA_REPLY_STATS_SLOTS = 24,
-    KUZHENGA_TAKEN_SLOTS = 17,      /* the replies of a bank */
+    KUZHENGA_REPLIES_SLOTS = 17,      /* the replies of a bank */
     KUZHENGA_FILE_SAMPLES = 4096,   /* the most samples of a capture file */
     KUZHENGA_FILE_BYTES = 12294,    /* the longest capture file */
     KUZHENGA_LINE_BYTES = 32        /* room for the bench's line */
@@ -111,7 +111,7 @@ uint32_t kuzhenga_reply_transitions_for(uint32_t value);
 uint32_t kuzhenga_reply_transitions(const uint16_t *samples, size_t samples_len, uint32_t pin_mask,
                                     uint16_t *word, size_t word_len /* 2 */);
 
-/* The checked value of transition bits, in one slot: 9, 10, 13. */
+/* The checked value of transition bits, of which the low twenty count, in one slot: 9, 10, 13. */
 uint32_t kuzhenga_decode_gcr(uint32_t transitions, uint16_t *value, size_t value_len /* 1 */);
 
 /* The reading of a value, whose low twelve bits count: 11, 13. */
@@ -195,14 +195,14 @@ uint32_t kuzhenga_encode_compare_sequence(uint32_t packet, const uint16_t *timin
                                           uint16_t *first, size_t first_len /* 1 */, uint16_t *dma_output,
                                           size_t dma_output_len /* 16 */);
 
-/* What a sequence says, by the timing that it was made with: 13, 14, 15. */
+/* What a sequence says, by the timing that it was made with: 13, 14 (a first duty above 65535 too), 15. */
 uint32_t kuzhenga_read_compare_sequence(uint32_t first, const uint16_t *dma_output,
                                         size_t dma_output_len /* 16 */, const uint16_t *timing,
                                         size_t timing_len /* 4 */, uint16_t *frame, size_t frame_len /* 3 */);
 
 /* ---- throttles, command runs and leases ----------------------------------------------------------------- */
 
-/* The DShot value of a throttle; one above 2000 counts as 2000. */
+/* The DShot value of a throttle, and of four (13); one above 2000 counts as 2000. */
 uint32_t kuzhenga_throttle_to_dshot(uint32_t value);
 uint32_t kuzhenga_throttles_to_dshot(const uint16_t *values, size_t values_len /* 4 */, uint16_t *out,
                                      size_t out_len /* 4 */);
@@ -210,7 +210,8 @@ uint32_t kuzhenga_throttles_to_dshot(const uint16_t *values, size_t values_len /
 /* The run that sets the spin direction and saves it: 13. */
 uint32_t kuzhenga_command_spin_direction(uint32_t reversed, uint16_t *run, size_t run_len /* 4 */);
 
-/* The run's next command in two slots, 1 and the command, or 0 and 0 where it is spent; the run is stepped: 13. */
+/* The run's next command in two slots, 1 and the command, or 0 and 0 where it is spent; the run is stepped: 13.
+ * An index above 1 is spent; of the last slot the low byte counts, 0 for 256. */
 uint32_t kuzhenga_command_next_value(uint16_t *run, size_t run_len /* 4 */, uint16_t *value,
                                      size_t value_len /* 2 */);
 
@@ -238,18 +239,29 @@ uint32_t kuzhenga_command_lease_expired(uint64_t started_ms, uint32_t duration_m
  *      the refusal), its number (32 bits; of debug 256 x channel + value), and the counts valid, invalid and
  *      invalid in a row (32 bits each)
  *
- * Other contents than these count so: a flag or lease above 1 is yes; a lane is taken modulo 4, the index
- * and the repeats modulo 256, a reading's number modulo 256 (of debug modulo 65536); a kind above 11 is 7.
+ * Other contents than these count so: a flag above 1 is yes; a lane is the slot less one, modulo 4; of the
+ * index and the repeats the low byte counts, of a reading's number the low byte, but all of a speed's and two
+ * bytes of debug's; a kind above 11 is 7. The kinds of stored replies are not those of readings.
  *
  * The hardware's answers come with a call, and the orders to it leave in the answer, to be done in their
- * order. Times are milliseconds of one clock, which may wrap.
+ * order. An answer that a call does not ask for counts for nothing; one that it asks for (whether a lane takes
+ * its buffer, whether the lanes turn around) is given before the order: a host that cannot know says yes, and
+ * stops its motors where the order then fails. Times are milliseconds of one clock, which may wrap.
+ *
+ * A frame set goes so: a service starts it; one interrupt for each lane's stream; of a bidirectional bank the
+ * last of these orders the lanes to receive, and one interrupt for each window follows, the last of which orders
+ * them back; the next service reads the windows and starts the next set. A service while a set is in flight
+ * answers busy, and latches a fault where the set is more than 1 ms old; so does an interrupt that no stream
+ * of a set is due, an error, or lanes that do not turn. A latched fault forces the outputs low and ends only
+ * with a new bank.
  */
 
 /* A new bank of a timing, in one direction; the first buffer is current, the second spare: 13. */
 uint32_t kuzhenga_bank_from_lanes(const uint16_t *timing, size_t timing_len /* 4 */, uint16_t *bank,
                                   size_t bank_len /* 97 */);
 
-/* Switches to bidirectional DShot, before the first frame: 13, 22 where a lane cannot receive replies. */
+/* Switches to bidirectional DShot: 13, 22 where a lane cannot receive replies. Meant for before the first frame;
+ * a later call is not refused. */
 uint32_t kuzhenga_bank_enable_bidirectional(uint16_t *bank, size_t bank_len, uint32_t receives_replies);
 
 /* Stops the motors and ends the lease: 13. */
@@ -259,8 +271,8 @@ uint32_t kuzhenga_bank_command_stop(uint16_t *bank, size_t bank_len);
 uint32_t kuzhenga_bank_command_throttles(uint16_t *bank, size_t bank_len, const uint16_t *throttles,
                                          size_t throttles_len /* 4 */, uint64_t now_ms, uint32_t lease_ms);
 
-/* Queues a command run for one motor: 13, 12, 18, 19, 20. Of its index and repeats one byte counts; an index
- * above 255 is spent. */
+/* Queues a command run for one motor: 13, 12, 18, 19, 20. A run whose index is above 1 is spent; of how often
+ * its command is still to be sent the low byte counts, 0 for 256. */
 uint32_t kuzhenga_bank_command_special(uint16_t *bank, size_t bank_len, size_t motor, const uint16_t *run,
                                        size_t run_len /* 4 */);
 
@@ -308,16 +320,16 @@ enum { KUZHENGA_EVENT = 0, KUZHENGA_ORDERS = 1, KUZHENGA_FIRST_ORDER = 2, KUZHEN
 enum { KUZHENGA_TAKEN = 0, KUZHENGA_PRESENT = 4, KUZHENGA_MASKS = 8 };
 
 /* Ends an expired lease, times out a frame in flight, reads the replies that wait, and sends the next frame
- * set: 13. `lanes` has for each lane whether it took its buffer, whether it has a capture, and the mask of
- * that; lane n's sequence is written to slot 16 n of its spare, and its window is the 160 samples from
+ * set: 13. `lanes` has four slots for whether each lane takes its buffer, four for whether it has a capture, and
+ * four for the masks of these; lane n's sequence is written to slot 16 n of its spare, and its window is the 160 samples from
  * 160 n. What a window reads as, a refusal too, is stored and is no refusal of the call. */
 uint32_t kuzhenga_bank_service(uint16_t *bank, size_t bank_len, uint64_t now_ms, const uint16_t *lanes,
                                size_t lanes_len /* 12 */, uint16_t *first, size_t first_len /* 64 */,
                                uint16_t *second, size_t second_len /* 64 */, const uint16_t *captures,
                                size_t captures_len /* 640 */, uint16_t *answer, size_t answer_len /* 15 */);
 
-/* A lane's DMA interrupt: 13, 12. turned: whether every lane turned to receive; turned_back: whether every
- * lane turned back. Each counts only where the bank orders it. */
+/* A lane's DMA interrupt: 13, 12. transfer_complete and dma_error: the status of its stream; turned: whether
+ * every lane turned to receive; turned_back: whether every lane turned back. */
 uint32_t kuzhenga_bank_on_dma_interrupt(uint16_t *bank, size_t bank_len, size_t motor,
                                         uint32_t transfer_complete, uint32_t dma_error, uint32_t turned,
                                         uint32_t turned_back, uint16_t *answer, size_t answer_len /* 9 */);
@@ -342,6 +354,34 @@ uint32_t kuzhenga_bank_stats(const uint16_t *bank, size_t bank_len, uint16_t *co
 /* Twelve counts of 32 bits: of the four lanes valid, then invalid, then invalid in a row. */
 uint32_t kuzhenga_bank_reply_stats(const uint16_t *bank, size_t bank_len, uint16_t *counts,
                                    size_t counts_len /* 24 */);
+
+/* Where each field of a state lies. */
+enum {
+    KUZHENGA_BANK_TIMING = 0,
+    KUZHENGA_BANK_VALUES = 4,
+    KUZHENGA_BANK_LEASE_STARTED = 8,
+    KUZHENGA_BANK_LEASE_OVER = 12,
+    KUZHENGA_BANK_REQUEST = 16,
+    KUZHENGA_BANK_REQUEST_SENT = 17,
+    KUZHENGA_BANK_RUN = 18,
+    KUZHENGA_BANK_BUSY = 23,
+    KUZHENGA_BANK_FAULTED = 24,
+    KUZHENGA_BANK_BIDIRECTIONAL = 25,
+    KUZHENGA_BANK_RECEIVING = 26,
+    KUZHENGA_BANK_REPLIES_WAITING = 27,
+    KUZHENGA_BANK_REPLIES_HELD = 28,
+    KUZHENGA_BANK_IN_SECOND = 29,
+    KUZHENGA_BANK_COMPLETION_MASK = 33,
+    KUZHENGA_BANK_FRAME_STARTED = 35,
+    KUZHENGA_BANK_COUNTS = 39,
+    KUZHENGA_BANK_REPLIES = 61
+};
+
+/* The four slots of lane n in the replies that were taken. */
+static inline const uint16_t *kuzhenga_taken_reply(const uint16_t *replies, size_t n)
+{
+    return replies + 1 + 4 * n;
+}
 
 /* The n-th count. */
 static inline uint32_t kuzhenga_count(const uint16_t *counts, size_t n)

@@ -112,7 +112,7 @@ choice n = pick (eqb n 0) none (some ((n - 1) % 4))
 abbrev pub lease : ℕ → Option ℕ
 lease n = pick (eqb n 0) none (some (n - 1))
 
--- a reply by its kind and number: 0 to 6 are readings, in the order of the Rust's `DshotReply`, 7 to 11 and above are document 01's refusals
+-- a reply by its kind and number: 0 to 6 are readings, in the order of the Rust's `DshotReply`, 7 to 11 document 01's refusals, and any other is 7
 abbrev pub reply : ℕ → ℕ → Answer Reading
 reply k n =
     pick (eqb k 0) (given (erpm n))

@@ -1,4 +1,4 @@
--- The parts of a bank's steps, as the code takes them one after another.
+-- The parts of a bank's steps, as the code takes them one after another. Only private functions cite this.
 -- Assumes nothing.
 use Prim.Native.Nat.{ℕ, _+_}
 use mathlib.Core.Bool.{true, false, Bool}

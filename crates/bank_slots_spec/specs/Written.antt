@@ -108,8 +108,7 @@ ReplyFits (given (state n)) = n < 256
 ReplyFits (given edt) = Unit
 ReplyFits (refused number) = (7 ≤ number) × (number ≤ 11)
 
--- a bank of four lanes whose numbers have the widths of the Rust's fields; numbers of 16 and 32 bits need no word here, since a slot or two hold
--- any number below
+-- a bank of four lanes that the library's types can hold; numbers of 16 and 32 bits are not bounded here, since they come back whatever they are
 pub record Fits (b : Bank) : Type 0 where
   pub values : length (b .core .demand .requestedValues) ≡ 4
   pub leaseStarted : b .core .demand .leaseStartedMs < 2 ^ 64
