@@ -1,4 +1,5 @@
 pub mod AnswerLaws
+pub mod Injective
 pub mod NumberLaws
 pub mod ReadBack
 pub mod OneFile
