@@ -1,6 +1,7 @@
 /* Calls every exported function with slices of no, too few, enough and too many elements and random contents,
- * and fails where a call returns a number that its header does not name, takes a slice of another length, or
- * changes a slice that it refused. Each slice ends where a page ends that may not be touched.
+ * and fails where a call returns a number that its header does not name, takes a slice of another length,
+ * changes a slice that it was lent to read, or changes any when it refuses. Each slice ends where a page begins
+ * that may not be touched.
  *
  *   fuzz [ROUNDS [SEED]]
  */
@@ -59,6 +60,7 @@ struct slice {
     size_t len;            /* elements */
     size_t bytes;
     int fits;
+    int read_only;
 };
 
 static unsigned char *ends[SLICES]; /* where each area's last page ends */
@@ -123,6 +125,7 @@ static struct slice *lend(size_t asked, size_t width)
     s->len = length_near(asked);
     s->bytes = s->len * width;
     s->fits = s->len == asked;
+    s->read_only = 0;
     s->at = s->len == 0 && below(2) ? NULL : ends[k] - s->bytes;
     if (s->bytes)
         fill(s->at, s->bytes);
@@ -137,6 +140,21 @@ static struct slice *lend_any(size_t usual, size_t width)
 {
     struct slice *s = lend(usual, width);
     s->fits = 1;
+    return s;
+}
+
+/* A slice that is only to be read. */
+static struct slice *show(size_t asked, size_t width)
+{
+    struct slice *s = lend(asked, width);
+    s->read_only = 1;
+    return s;
+}
+
+static struct slice *show_any(size_t usual, size_t width)
+{
+    struct slice *s = lend_any(usual, width);
+    s->read_only = 1;
     return s;
 }
 
@@ -166,12 +184,12 @@ static void check(const char *name, uint32_t r, uint32_t may)
         fail("a slice of another length was taken", r);
     if (r != 0 && (r > 31 || !(may >> r & 1)))
         fail("a refusal that the header does not name", r);
-    if (r != 0) {
+    if (r != 0)
         refused_calls++;
-        for (int i = 0; i < lent_count; i++)
-            if (lent[i].bytes && memcmp(lent[i].at, lent[i].before, lent[i].bytes) != 0)
-                fail("a refused call changed a slice", r);
-    }
+    for (int i = 0; i < lent_count; i++)
+        if ((r != 0 || lent[i].read_only) && lent[i].bytes
+            && memcmp(lent[i].at, lent[i].before, lent[i].bytes) != 0)
+            fail("a slice was changed that should not be", r);
     lent_count = 0;
 }
 
@@ -183,13 +201,13 @@ static void replies(void)
 {
     struct slice *a, *b;
     (void)kuzhenga_reply_transitions_for(number());
-    a = lend_any(160, 2), b = lend(2, 2);
+    a = show_any(160, 2), b = lend(2, 2);
     check("reply_transitions", kuzhenga_reply_transitions(SLOTS(a), number(), SLOTS(b)), B(7) | B(8) | B(13));
     a = lend(1, 2);
     check("decode_gcr", kuzhenga_decode_gcr(number(), SLOTS(a)), B(9) | B(10) | B(13));
     a = lend(3, 2);
     check("reply_from_value", kuzhenga_reply_from_value(number(), number(), SLOTS(a)), B(11) | B(13));
-    a = lend_any(160, 2), b = lend(3, 2);
+    a = show_any(160, 2), b = lend(3, 2);
     check("decode_sampled_reply", kuzhenga_decode_sampled_reply(SLOTS(a), number(), number(), SLOTS(b)),
           B(7) | B(8) | B(9) | B(10) | B(11) | B(13));
     a = lend(1, 2);
@@ -208,9 +226,9 @@ static void packets(void)
         fail("no packet", 0);
     a = lend(1, 2);
     check("packet_try_from_value", kuzhenga_packet_try_from_value(number(), number(), SLOTS(a)), B(5) | B(13));
-    a = lend(4, 2), b = lend(4, 2);
+    a = show(4, 2), b = lend(4, 2);
     check("four_motor_packets", kuzhenga_four_motor_packets(SLOTS(a), lane(), SLOTS(b)), B(13));
-    a = lend(4, 2), b = lend(4, 2);
+    a = show(4, 2), b = lend(4, 2);
     check("four_motor_bidirectional_packets",
           kuzhenga_four_motor_bidirectional_packets(SLOTS(a), lane(), SLOTS(b)), B(13));
     a = lend(3, 2);
@@ -223,14 +241,14 @@ static void sequences(void)
     a = lend(4, 2);
     check("timing_from_clocks", kuzhenga_timing_from_clocks(number(), number(), SLOTS(a)),
           B(1) | B(2) | B(3) | B(4) | B(13));
-    a = lend(4, 2), b = lend(1, 2);
+    a = show(4, 2), b = lend(1, 2);
     check("duty_for_bit", kuzhenga_duty_for_bit(SLOTS(a), number(), SLOTS(b)), B(13));
     a = lend(22, 2);
     check("encode_packet", kuzhenga_encode_packet(number(), number(), SLOTS(a)), B(13));
-    a = lend(4, 2), b = lend(1, 2), c = lend(16, 2);
+    a = show(4, 2), b = lend(1, 2), c = lend(16, 2);
     check("encode_compare_sequence", kuzhenga_encode_compare_sequence(number(), SLOTS(a), SLOTS(b), SLOTS(c)),
           B(13));
-    a = lend(16, 2), b = lend(4, 2), c = lend(3, 2);
+    a = show(16, 2), b = show(4, 2), c = lend(3, 2);
     check("read_compare_sequence", kuzhenga_read_compare_sequence(number(), SLOTS(a), SLOTS(b), SLOTS(c)),
           B(13) | B(14) | B(15));
 }
@@ -239,7 +257,7 @@ static void commands(void)
 {
     struct slice *a, *b;
     (void)kuzhenga_throttle_to_dshot(number());
-    a = lend(4, 2), b = lend(4, 2);
+    a = show(4, 2), b = lend(4, 2);
     check("throttles_to_dshot", kuzhenga_throttles_to_dshot(SLOTS(a), SLOTS(b)), B(13));
     a = lend(4, 2);
     check("command_spin_direction", kuzhenga_command_spin_direction(number(), SLOTS(a)), B(13));
@@ -251,30 +269,53 @@ static void commands(void)
         fail("no flag", 0);
 }
 
+/* Sometimes the file of some samples, sometimes with a byte changed. */
+static struct slice *some_file(void)
+{
+    static uint16_t samples[400];
+    static uint8_t file[KUZHENGA_FILE_BYTES];
+    uint16_t length[1];
+    size_t count = below(400);
+    struct slice *s = show_any(200, 1);
+    if (below(4) == 0)
+        return s;
+    fill((unsigned char *)samples, sizeof samples);
+    if (kuzhenga_write_capture(samples, count, number(), below(2), file, sizeof file, length, 1) != 0)
+        fail("a capture was not written", 0);
+    s->len = s->bytes = length[0];
+    s->at = ends[lent_count - 1] - s->bytes;
+    memcpy(s->at, file, s->bytes);
+    if (below(4) == 0)
+        s->at[below((uint32_t)s->bytes)] = (unsigned char)random_number();
+    memcpy(s->before, s->at, s->bytes);
+    return s;
+}
+
 static void captures(void)
 {
     struct slice *a, *b, *c;
-    a = lend_any(200, 1), b = lend(KUZHENGA_FILE_SAMPLES, 2), c = lend(3, 2);
+    a = some_file(), b = lend(KUZHENGA_FILE_SAMPLES, 2), c = lend(3, 2);
     check("read_capture", kuzhenga_read_capture(BYTES(a), SLOTS(b), SLOTS(c)), B(13) | B(17));
-    a = lend_any(160, 2), b = lend(KUZHENGA_FILE_BYTES, 1), c = lend(1, 2);
+    a = show_any(below(8) ? 160 : KUZHENGA_FILE_SAMPLES, 2);
+    b = lend(KUZHENGA_FILE_BYTES, 1), c = lend(1, 2);
     check("write_capture", kuzhenga_write_capture(SLOTS(a), number(), number(), BYTES(b), SLOTS(c)), B(13));
-    a = lend_any(200, 1), b = lend(KUZHENGA_LINE_BYTES, 1), c = lend(1, 2);
+    a = some_file(), b = lend(KUZHENGA_LINE_BYTES, 1), c = lend(1, 2);
     check("list_capture", kuzhenga_list_capture(BYTES(a), BYTES(b), SLOTS(c)), B(13));
 }
 
 static void bank_commands(void)
 {
     struct slice *a, *b;
-    a = lend(4, 2), b = lend(KUZHENGA_BANK_SLOTS, 2);
+    a = show(4, 2), b = lend(KUZHENGA_BANK_SLOTS, 2);
     check("bank_from_lanes", kuzhenga_bank_from_lanes(SLOTS(a), SLOTS(b)), B(13));
     a = lend(KUZHENGA_BANK_SLOTS, 2);
     check("bank_enable_bidirectional", kuzhenga_bank_enable_bidirectional(SLOTS(a), number()), B(13) | B(22));
     a = lend(KUZHENGA_BANK_SLOTS, 2);
     check("bank_command_stop", kuzhenga_bank_command_stop(SLOTS(a)), B(13));
-    a = lend(KUZHENGA_BANK_SLOTS, 2), b = lend(4, 2);
+    a = lend(KUZHENGA_BANK_SLOTS, 2), b = show(4, 2);
     check("bank_command_throttles", kuzhenga_bank_command_throttles(SLOTS(a), SLOTS(b), clock_ms(), number()),
           B(6) | B(13) | B(18));
-    a = lend(KUZHENGA_BANK_SLOTS, 2), b = lend(4, 2);
+    a = lend(KUZHENGA_BANK_SLOTS, 2), b = show(4, 2);
     check("bank_command_special", kuzhenga_bank_command_special(SLOTS(a), lane(), SLOTS(b)),
           B(12) | B(13) | B(18) | B(19) | B(20));
     a = lend(KUZHENGA_BANK_SLOTS, 2);
@@ -288,9 +329,9 @@ static void bank_commands(void)
 
 static void bank_cycle(void)
 {
-    struct slice *bank = lend(KUZHENGA_BANK_SLOTS, 2), *lanes = lend(KUZHENGA_LANES_SLOTS, 2);
+    struct slice *bank = lend(KUZHENGA_BANK_SLOTS, 2), *lanes = show(KUZHENGA_LANES_SLOTS, 2);
     struct slice *first = lend(KUZHENGA_BUFFER_SLOTS, 2), *second = lend(KUZHENGA_BUFFER_SLOTS, 2);
-    struct slice *samples = lend(KUZHENGA_CAPTURE_SAMPLES, 2), *out = lend(KUZHENGA_SERVICE_SLOTS, 2);
+    struct slice *samples = show(KUZHENGA_CAPTURE_SAMPLES, 2), *out = lend(KUZHENGA_SERVICE_SLOTS, 2);
     check("bank_service", kuzhenga_bank_service(SLOTS(bank), clock_ms(), SLOTS(lanes), SLOTS(first), SLOTS(second),
                                                 SLOTS(samples), SLOTS(out)), B(13));
     bank = lend(KUZHENGA_BANK_SLOTS, 2), out = lend(KUZHENGA_INTERRUPT_SLOTS, 2);
@@ -318,11 +359,11 @@ static void bank_looks(void)
     };
     struct slice *bank, *first, *second, *out;
     for (size_t i = 0; i < sizeof looks / sizeof *looks; i++) {
-        bank = lend(KUZHENGA_BANK_SLOTS, 2), out = lend(looks[i].slots, 2);
+        bank = show(KUZHENGA_BANK_SLOTS, 2), out = lend(looks[i].slots, 2);
         check(looks[i].name, looks[i].call(SLOTS(bank), SLOTS(out)), B(13));
     }
-    bank = lend(KUZHENGA_BANK_SLOTS, 2), first = lend(KUZHENGA_BUFFER_SLOTS, 2);
-    second = lend(KUZHENGA_BUFFER_SLOTS, 2), out = lend(KUZHENGA_SEQUENCE_SLOTS, 2);
+    bank = show(KUZHENGA_BANK_SLOTS, 2), first = show(KUZHENGA_BUFFER_SLOTS, 2);
+    second = show(KUZHENGA_BUFFER_SLOTS, 2), out = lend(KUZHENGA_SEQUENCE_SLOTS, 2);
     check("bank_sending", kuzhenga_bank_sending(SLOTS(bank), SLOTS(first), SLOTS(second), lane(), SLOTS(out)),
           B(12) | B(13));
 }
