@@ -82,16 +82,6 @@ fn put_lane(state: &mut [u16], k: usize, lane: LaneReply)
     put_word(state, k + 7, lane.consecutive_invalid);
 }
 
-// A lane's reply, from its window. Extended telemetry is not enabled yet, so every value but its acknowledgement is read as eRPM.
-fn read_window(present: u16, samples: &[u16], mask: u16) -> ReplyRead
-    ensures { λ r. ⌜ replyAnswer r ≡ readWindow (Layout.flag present) (now (samples .entry)) mask ⌝ }
-{
-    if flag(present) {
-        return dshot_reply::decode_sampled_reply(samples, mask, false);
-    }
-    ReplyRead::Refused(DshotReplyError::NoReply)
-}
-
 // Counts a reply of the lane whose slots begin at `k`. What was stored before is not looked at.
 fn count_reply(state: &mut [u16], k: usize, reply: ReplyRead)
     requires { ⌜ k + 8 < length (now state) ⌝ }
@@ -106,14 +96,19 @@ fn count_reply(state: &mut [u16], k: usize, reply: ReplyRead)
     put_lane(state, k, before.counting(StoredReply::of(reply)));
 }
 
-// Reads and counts the window of a lane whose slots begin at `k`.
+// Reads and counts the window of a lane whose slots begin at `k`. Extended telemetry is not enabled yet, so every value but its acknowledgement is
+// read as eRPM.
 fn decode_lane(state: &mut [u16], k: usize, lane: usize, lanes: &[u16], captures: &[u16])
     requires { ⌜ (k + 8 < length (now state)) × (lane < 4) × (length (now lanes) ≡ 12) × (length (now captures) ≡ 160 * 4) ⌝ }
     ensures { λ r. ⌜ now (state .exit) ≡ write (laneRows k (countReply (readWindow (Layout.flag (getD (now (lanes .entry)) (4 + lane) 0)) (window (now (captures .entry)) lane) (getD (now (lanes .entry)) (8 + lane) 0)) (laneFrom k (at (now (state .entry)))))) (now (state .entry)) ⌝ }
 {
+    if !flag(lanes[4 + lane]) {
+        count_reply(state, k, ReplyRead::Refused(DshotReplyError::NoReply));
+        return;
+    }
     let from = REPLY_WINDOW_SAMPLES * lane;
     let to = from + REPLY_WINDOW_SAMPLES;
-    let read = read_window(lanes[4 + lane], &captures[from..to], lanes[8 + lane]);
+    let read = dshot_reply::decode_sampled_reply(&captures[from..to], lanes[8 + lane], false);
     count_reply(state, k, read);
 }
 

@@ -1,110 +1,141 @@
 -- A lane's window read, and its reply counted.
-use mathlib.Core.Path.{_∙_, ap}
+use mathlib.Core.Path.{_∙_, refl, sym, ap}
+use mathlib.Core.Bool.{false}
 use mathlib.Core.List.{List}
 use Prim.Native.Nat.{ℕ, _+_}
 use lib.ListN.{getD}
+use borrow.Author.Tests.{not-true, not-false}
 use Rattle.dshot_reply_spec.specs.Answer.{Answer}
 use Rattle.dshot_reply_spec.specs.Value.{Reading}
-use Rattle.dshot_bank_spec.specs.Replies.{readWindow, countReply}
+use Rattle.dshot_reply_spec.specs.Reading.{sampledReply}
+use Rattle.dshot_bank_spec.specs.Replies.{countReply}
+use Rattle.dshot_bank_spec.proofs.LaneLaws.{on, off}
 use Rattle.dshot_bank.proofs.ReplyLaws.{part-is}
 use Rattle.bank_slots_spec.specs.Memory.{at, write}
-use Rattle.bank_slots_spec.specs.Layout.{flag, laneRows}
+use Rattle.bank_slots_spec.specs.Layout.{laneRows}
 use Rattle.bank_slots_spec.specs.Parts.{laneFrom}
 use borrow.Author.Needs.{needs}
 use Rattle.bank_slots.proofs.replies.decode_lane.Statement.{statement}
 use Rattle.bank_slots.proofs.replies.decode_lane.Tie as tie
 use Rattle.bank_slots.proofs.replies.decode_lane.Reads as reads
 use Rattle.bank_slots.proofs.replies.decode_lane.Lts as lts
+use Rattle.bank_slots.proofs.memory.flag.Reads as flag-reads
 use Rattle.bank_slots.proofs.replies.count_reply.Reads as count-reply-reads
-use Rattle.bank_slots.proofs.replies.read_window.Reads as read-window-reads
+use Rattle.dshot_reply.proofs.decode_sampled_reply.Reads as decode-sampled-reply-reads
 
--- src/replies.rt:114:16
-mul-from : tie.Need-mul-from
-mul-from c = search needs
+-- src/replies.rt:105:20
+add-flag : tie.Need-add-flag
+add-flag c = search needs
 
--- src/replies.rt:115:14
-add-to : tie.Need-add-to
-add-to c = search needs
+-- src/replies.rt:105:14
+mul-flag : tie.Need-mul-flag
+mul-flag c = search needs
 
--- src/replies.rt:116:34
-add-read-window : tie.Need-add-read-window
-add-read-window c = search needs
+-- src/replies.rt:105:14
+shared-slice-read-flag : tie.Need-shared-slice-read-flag
+shared-slice-read-flag c = search needs
 
--- src/replies.rt:116:28
-mul-read-window : tie.Need-mul-read-window
-mul-read-window c = search needs
+-- src/replies.rt:105:9
+flag-requires : tie.Need-flag-requires
+flag-requires c κs = search needs
 
--- src/replies.rt:116:28
-shared-slice-read-read-window : tie.Need-shared-slice-read-read-window
-shared-slice-read-read-window c = search needs
-
--- src/replies.rt:116:45
-mul-read-window-2 : tie.Need-mul-read-window-2
-mul-read-window-2 c = search needs
-
--- src/replies.rt:116:45
-sub-read-window : tie.Need-sub-read-window
-sub-read-window c = search needs
-
--- src/replies.rt:116:45
-part-read-window-start : tie.Need-part-read-window-start
-part-read-window-start c = search needs
-
--- src/replies.rt:116:45
-part-read-window-end : tie.Need-part-read-window-end
-part-read-window-end c = search needs
-
--- src/replies.rt:116:72
-add-read-window-2 : tie.Need-add-read-window-2
-add-read-window-2 c = search needs
-
--- src/replies.rt:116:66
-mul-read-window-3 : tie.Need-mul-read-window-3
-mul-read-window-3 c = search needs
-
--- src/replies.rt:116:66
-shared-slice-read-read-window-2 : tie.Need-shared-slice-read-read-window-2
-shared-slice-read-read-window-2 c = search needs
-
--- src/replies.rt:116:9
-read-window-requires : tie.Need-read-window-requires
-read-window-requires c κs = search needs
-
--- src/replies.rt:117:5
+-- src/replies.rt:106:9
 count-reply-requires : tie.Need-count-reply-requires
 count-reply-requires c κs = search needs
 
--- src/replies.rt:110:1
+-- src/replies.rt:107:9
 same-length : tie.Need-same-length
 same-length c = search needs
 
--- src/replies.rt:110:1
+-- src/replies.rt:107:9
 returns : tie.Need-returns
 returns c =
-    let a = c .before .before .before .before .before .before .before .before .before .before .before .args in
+    let a = c .before .before .before .before .before .before .before .before .before .before .args in
+    let xs = a .state .now in
+    let absent = sym (c .before .before .before .before .before .flag .ensures) ∙ not-true _ (c .before .before .before .before .if1 .taken) in
+    c .before .before .count-reply .ensures
+    ∙ ap (λ (r : Answer Reading). write (laneRows (a .k) (countReply r (laneFrom (a .k) (at xs)))) xs) (off _ _ absent refl)
+
+-- src/replies.rt:109:16
+mul-from : tie.Need-mul-from
+mul-from c = search needs
+
+-- src/replies.rt:110:14
+add-to : tie.Need-add-to
+add-to c = search needs
+
+-- src/replies.rt:111:50
+mul-decode-sampled-reply : tie.Need-mul-decode-sampled-reply
+mul-decode-sampled-reply c = search needs
+
+-- src/replies.rt:111:50
+sub-decode-sampled-reply : tie.Need-sub-decode-sampled-reply
+sub-decode-sampled-reply c = search needs
+
+-- src/replies.rt:111:50
+part-decode-sampled-reply-start : tie.Need-part-decode-sampled-reply-start
+part-decode-sampled-reply-start c = search needs
+
+-- src/replies.rt:111:50
+part-decode-sampled-reply-end : tie.Need-part-decode-sampled-reply-end
+part-decode-sampled-reply-end c = search needs
+
+-- src/replies.rt:111:77
+add-decode-sampled-reply : tie.Need-add-decode-sampled-reply
+add-decode-sampled-reply c = search needs
+
+-- src/replies.rt:111:71
+mul-decode-sampled-reply-2 : tie.Need-mul-decode-sampled-reply-2
+mul-decode-sampled-reply-2 c = search needs
+
+-- src/replies.rt:111:71
+shared-slice-read-decode-sampled-reply : tie.Need-shared-slice-read-decode-sampled-reply
+shared-slice-read-decode-sampled-reply c = search needs
+
+-- src/replies.rt:111:9
+decode-sampled-reply-requires : tie.Need-decode-sampled-reply-requires
+decode-sampled-reply-requires c κs = search needs
+
+-- src/replies.rt:112:5
+count-reply-requires-2 : tie.Need-count-reply-requires-2
+count-reply-requires-2 c κs = search needs
+
+-- src/replies.rt:101:1
+same-length-2 : tie.Need-same-length-2
+same-length-2 c = search needs
+
+-- src/replies.rt:101:1
+returns-2 : tie.Need-returns-2
+returns-2 c =
+    let a = c .before .before .before .before .before .before .before .before .before .before .before .before .before .args in
     let xs = a .state .now in
     let lanes = a .lanes .now in
-    c .before .before .count-reply .ensures
+    let present = sym (c .before .before .before .before .before .before .before .before .flag .ensures) ∙ not-false _ (c .before .before .before .before .before .before .before .if1 .left) in
+    c .before .before .count-reply2 .ensures
     ∙ ap (λ (r : Answer Reading). write (laneRows (a .k) (countReply r (laneFrom (a .k) (at xs)))) xs)
-    (c .before .before .before .before .read-window .ensures ∙ ap (λ (s : List ℕ). readWindow (flag (getD lanes (4 + a .lane) 0)) s (getD lanes (8 + a .lane) 0)) (part-is 160 (a .lane) (a .captures .now)))
+    (on _ _ present (c .before .before .before .before .decode-sampled-reply .ensures ∙ ap (λ (s : List ℕ). sampledReply 3 s (getD lanes (8 + a .lane) 0) false) (part-is 160 (a .lane) (a .captures .now))))
 
 pub decode-lane-spec : {M : Type 1} → statement M
 decode-lane-spec =
     tie.close
     (tie.spec
-    mul-from
-    add-to
-    add-read-window
-    mul-read-window
-    shared-slice-read-read-window
-    mul-read-window-2
-    sub-read-window
-    part-read-window-start
-    part-read-window-end
-    add-read-window-2
-    mul-read-window-3
-    shared-slice-read-read-window-2
-    read-window-requires
+    add-flag
+    mul-flag
+    shared-slice-read-flag
+    flag-requires
     count-reply-requires
     same-length
-    returns)
+    returns
+    mul-from
+    add-to
+    mul-decode-sampled-reply
+    sub-decode-sampled-reply
+    part-decode-sampled-reply-start
+    part-decode-sampled-reply-end
+    add-decode-sampled-reply
+    mul-decode-sampled-reply-2
+    shared-slice-read-decode-sampled-reply
+    decode-sampled-reply-requires
+    count-reply-requires-2
+    same-length-2
+    returns-2)
