@@ -33,70 +33,79 @@ pub struct Left {
     pub counts: [[u32; 4]; 6],
 }
 
-/// A bank of the source on buffers of its own, which are given back.
-fn with_bank(cycles: &Cycles, left: &mut Left, run: impl FnOnce(&mut DshotBank<Lanes>)) {
-    let buffers = Box::into_raw(Box::new(left.buffers));
-    // The bank is gone before the box is taken back.
-    let [current, spares] = unsafe { &mut *buffers }.each_mut();
-    let sum = Cell::new(0);
-    let lanes = Lanes {
+fn lanes<'a, const CALLS: bool>(
+    cycles: &'a Cycles,
+    current: &'static mut [Buffer; 4],
+    sum: &'a Cell<u32>,
+) -> Lanes<'a, CALLS> {
+    Lanes {
         current: current.each_mut(),
         receives: cycles.bidirectional,
         present: cycles.present,
         mask: cycles.mask,
         captures: &cycles.captures,
         started: 0,
-        sum: &sum,
-    };
+        sum,
+    }
+}
+
+/// The bank stands in the function that makes the calls, where the compiler sees all of it.
+#[inline(never)]
+pub fn original_cycles(cycles: &Cycles, left: &mut Left) {
+    let buffers = Box::into_raw(Box::new(left.buffers));
+    // The bank is gone before the box is taken back.
+    let [current, spares] = unsafe { &mut *buffers }.each_mut();
+    let sum = Cell::new(0);
+    let lanes = lanes::<false>(cycles, current, &sum);
     let mut bank = DshotBank::from_lanes(lanes, spares.each_mut(), timing(cycles.timing));
     // Refused where the lanes do not receive.
     let _ = bank.enable_bidirectional();
-    run(&mut bank);
+    for (now_ms, throttles) in (0..).zip(&cycles.throttles) {
+        let _ = bank.command_throttles(*throttles, now_ms, LEASE_MS);
+        bank.service(now_ms);
+        for interrupt in 0..cycles.interrupts {
+            bank.on_dma_interrupt(DshotMotor::ALL[interrupt % 4]);
+        }
+    }
     left.counts = counts(&mut bank, sum.get());
     drop(bank);
     left.buffers = *unsafe { Box::from_raw(buffers) };
-}
-
-#[inline(never)]
-pub fn original_cycles(cycles: &Cycles, left: &mut Left) {
-    with_bank(cycles, left, |bank| {
-        for (now_ms, throttles) in (0..).zip(&cycles.throttles) {
-            let _ = bank.command_throttles(*throttles, now_ms, LEASE_MS);
-            bank.service(now_ms);
-            for interrupt in 0..cycles.interrupts {
-                bank.on_dma_interrupt(DshotMotor::ALL[interrupt % 4]);
-            }
-        }
-    });
 }
 
 /// The same, with each call of the bank a call of its own: a host's loop and its interrupt handlers
 /// do not see into each other.
 #[inline(never)]
 pub fn original_calls(cycles: &Cycles, left: &mut Left) {
-    with_bank(cycles, left, |bank| {
-        for (now_ms, throttles) in (0..).zip(&cycles.throttles) {
-            command(bank, throttles, now_ms);
-            serve(bank, now_ms);
-            for interrupt in 0..cycles.interrupts {
-                interrupted(bank, DshotMotor::ALL[interrupt % 4]);
-            }
+    let buffers = Box::into_raw(Box::new(left.buffers));
+    let [current, spares] = unsafe { &mut *buffers }.each_mut();
+    let sum = Cell::new(0);
+    let lanes = lanes::<true>(cycles, current, &sum);
+    let mut bank = DshotBank::from_lanes(lanes, spares.each_mut(), timing(cycles.timing));
+    let _ = bank.enable_bidirectional();
+    for (now_ms, throttles) in (0..).zip(&cycles.throttles) {
+        command(&mut bank, throttles, now_ms);
+        serve(&mut bank, now_ms);
+        for interrupt in 0..cycles.interrupts {
+            interrupted(&mut bank, DshotMotor::ALL[interrupt % 4]);
         }
-    });
+    }
+    left.counts = counts(&mut bank, sum.get());
+    drop(bank);
+    left.buffers = *unsafe { Box::from_raw(buffers) };
 }
 
 #[inline(never)]
-fn command(bank: &mut DshotBank<Lanes>, throttles: &[u16; 4], now_ms: u64) {
+fn command(bank: &mut DshotBank<Lanes<true>>, throttles: &[u16; 4], now_ms: u64) {
     let _ = bank.command_throttles(*throttles, now_ms, LEASE_MS);
 }
 
 #[inline(never)]
-fn serve(bank: &mut DshotBank<Lanes>, now_ms: u64) {
+fn serve(bank: &mut DshotBank<Lanes<true>>, now_ms: u64) {
     bank.service(now_ms);
 }
 
 #[inline(never)]
-fn interrupted(bank: &mut DshotBank<Lanes>, motor: DshotMotor) {
+fn interrupted(bank: &mut DshotBank<Lanes<true>>, motor: DshotMotor) {
     bank.on_dma_interrupt(motor);
 }
 
@@ -109,7 +118,7 @@ fn timing([arr, zero_high, one_high, reply_sample_arr]: [u16; 4]) -> DshotTiming
     }
 }
 
-fn counts(bank: &mut DshotBank<Lanes>, sum: u32) -> [[u32; 4]; 6] {
+fn counts<const CALLS: bool>(bank: &mut DshotBank<Lanes<CALLS>>, sum: u32) -> [[u32; 4]; 6] {
     let (stats, replies) = (bank.stats(), bank.reply_stats());
     let speeds = bank.take_replies().map_or([0; 4], |read| {
         read.map(|reply| match reply {

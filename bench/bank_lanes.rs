@@ -9,7 +9,9 @@ use std::cell::Cell;
 /// The sixteen slots of one lane.
 pub type Buffer = [u16; 16];
 
-pub struct Lanes<'a> {
+/// `CALLS` only makes two types of it, so that a bank in one loop and a bank whose calls stand alone
+/// are compiled apart, each as if it were the only one.
+pub struct Lanes<'a, const CALLS: bool> {
     /// The buffers that the lanes are sending.
     pub current: [&'static mut Buffer; 4],
     pub receives: bool,
@@ -22,7 +24,7 @@ pub struct Lanes<'a> {
     pub sum: &'a Cell<u32>,
 }
 
-impl Lanes<'_> {
+impl<const CALLS: bool> Lanes<'_, CALLS> {
     fn add(&self, number: u32) {
         self.sum.set(self.sum.get().wrapping_add(number));
     }
@@ -33,7 +35,7 @@ impl Lanes<'_> {
     }
 }
 
-impl DshotLanes for Lanes<'_> {
+impl<const CALLS: bool> DshotLanes for Lanes<'_, CALLS> {
     type Buffer = Buffer;
 
     fn encode(packet: DshotPacket, timing: DshotTiming, buffer: &mut Buffer) -> u16 {
