@@ -62,11 +62,11 @@ module _ {fits : Bool} (xs : List ℕ) (b : Buffers) {call : Call} (answer : Rep
 
 -- what the port refuses, and what it does not
 module _ (s : State) (call : ℕ → Call) (refuses : (i : ℕ) → portRefusal 4 s (call i) ≡ laneRefusal 4 i) (i : ℕ) where
-  lane-found : i < 4 → step 4 s (call i) ≡ act 4 s (call i)
+  pub lane-found : i < 4 → step 4 s (call i) ≡ act 4 s (call i)
   unfolding step
   lane-found h = ap (λ (k : ℕ). refuseOr s k (act 4 s (call i))) (refuses i ∙ sym (on _ _ (lt-ltb i 4 h) refl))
 
-  lane-missing : 4 ≤ i → step 4 s (call i) ≡ told s (refused noSuchMotor)
+  pub lane-missing : 4 ≤ i → step 4 s (call i) ≡ told s (refused noSuchMotor)
   unfolding step
   lane-missing h = ap (λ (k : ℕ). refuseOr s k (act 4 s (call i))) (refuses i ∙ sym (off _ _ (le-ltb i 4 h) refl))
 

@@ -145,7 +145,7 @@ none-kept k x h = ap (λ (t : Bool). isSome (pick t none (some x))) (eq-eqb k 0 
 
 module _ (xs : List ℕ) where
   -- the values as a part of the slots
-  values-part : length xs ≡ slots → four (λ (i : ℕ). at xs (VALUES + i)) ≡ take 4 (drop VALUES xs)
+  pub values-part : length xs ≡ slots → four (λ (i : ℕ). at xs (VALUES + i)) ≡ take 4 (drop VALUES xs)
   values-part n =
       (λ j. entry 0 (omega arith) j ∷ entry 1 (omega arith) j ∷ entry 2 (omega arith) j ∷ entry 3 (omega arith) j ∷ [])
       ∙ four-back 0 (take 4 (drop VALUES xs)) (length-take-le 4 (drop VALUES xs) (omega (arith, length-drop VALUES xs)))

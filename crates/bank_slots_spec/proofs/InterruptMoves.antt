@@ -8,7 +8,7 @@ use native.Mathlib.Omega.{arith}
 use lib.Bits.{bitAnd, bitOr}
 use lib.Dec.{eqb}
 use lib.ListN.{length}
-use borrow.Author.Tests.{eq-eqb, ne-eqb, lt-ltb, le-ltb}
+use borrow.Author.Tests.{eq-eqb, ne-eqb}
 use Rattle.dshot_reply_spec.specs.Answer.{pick}
 use Rattle.dshot_spec.specs.Tabulate.{tabulate}
 use Rattle.dshot_bank_spec.specs.Lanes.{if_then_else_}
@@ -30,6 +30,7 @@ use Rattle.bank_slots_spec.specs.Handles.{Handles}
 use Rattle.bank_slots_spec.proofs.MemoryLaws.{length-write, word-back}
 use Rattle.bank_slots_spec.proofs.MoveLaws.{moves-write, moves-then, moves-as, moves-at, stays, counted}
 use Rattle.bank_slots_spec.proofs.FaultMoves.{corePick, twice, bumped-if}
+use Rattle.bank_slots_spec.proofs.CommandCalls.{lane-found, lane-missing}
 use Rattle.bank_slots_spec.proofs.CalledLaws.{state-short, state-fits, other-short, answer-unfit, answer-fits, called-unfit, called-refused, called-done, out-kept, out-filled}
 use Rattle.bank_slots_spec.proofs.Counted.{lane-counted}
 
@@ -229,13 +230,17 @@ module _ (motor : ℕ) (complete error turned back : Bool) where
   abbrev call : Call
   call = on-dma-interrupt motor complete error turned back
 
+  -- of any lane, as the port tests it
+  abbrev at-lane : ℕ → Call
+  at-lane i = on-dma-interrupt i complete error turned back
+
   no-lane : (s : State) → 4 ≤ motor → step 4 s call ≡ told s (refused 12)
-  unfolding step portRefusal
-  no-lane s h = sym (off _ _ (ap (λ (b : Bool). eqb (if b then 0 else 12) 0) (le-ltb motor 4 h)) (ap (λ (b : Bool). told s (refused (if b then 0 else 12))) (sym (le-ltb motor 4 h))))
+  unfolding portRefusal
+  no-lane s h = lane-missing s at-lane (λ i. refl) motor h
 
   of-lane : (s : State) → motor < 4 → step 4 s call ≡ act 4 s call
-  unfolding step portRefusal
-  of-lane s h = sym (on _ _ (ap (λ (b : Bool). eqb (if b then 0 else 12) 0) (lt-ltb motor 4 h)) refl)
+  unfolding portRefusal
+  of-lane s h = lane-found s at-lane (λ i. refl) motor h
 
   -- the call's two promises
   abbrev Answers : (xs ys out told : List ℕ) → ℕ → Type 0

@@ -7,8 +7,7 @@ use mathlib.Core.Option.{Option, none, some}
 use Prim.Native.Nat.{ℕ, zero, suc, _+_, _-_, _%_, _^_, _<_, _≤_}
 use native.Mathlib.Omega.{arith}
 use lib.Dec.{eqb, ltb}
-use lib.ListN.{length, getD, take, drop, replicate, length-drop}
-use lib.Seq.{getD-take, getD-drop, length-take-le}
+use lib.ListN.{length, getD, take, drop, replicate}
 use borrow.Author.Tests.{not-true, not-false, eq-eqb, ne-eqb, lt-ltb, le-ltb}
 use Rattle.dshot_reply_spec.specs.Answer.{pick}
 use Rattle.dshot_spec.specs.Tabulate.{tabulate}
@@ -34,8 +33,9 @@ use Rattle.bank_slots_spec.specs.Parts.{bumped, queued, runStepped, mark
 use Rattle.bank_slots_spec.specs.Outs.{taken, codes, serviceEvent, serviceSlots}
 use Rattle.bank_slots_spec.specs.Handles.{Serves}
 use Rattle.bank_slots_spec.proofs.MemoryLaws.{length-write}
+use Rattle.bank_slots_spec.proofs.CommandMoves.{values-part}
 use Rattle.bank_slots_spec.proofs.MoveLaws.{moves-write, moves-then, moves-as, moves-at, stays, counted}
-use Rattle.bank_slots_spec.proofs.FieldLaws.{flag-back, flag-written, four-back, long-back, run-back, run-written}
+use Rattle.bank_slots_spec.proofs.FieldLaws.{flag-back, flag-written, long-back, run-back, run-written}
 
 -- ---- the run of commands
 
@@ -81,15 +81,6 @@ run-next xs h next e {k} c m =
     let q : nextOf ((at xs RUN - 1) % 4) k (next .run) ≡ nextOfRun (load xs .core .commandSequence) =
     sym (next-there xs h e ∙ ap (λ (v : Command). nextOf ((at xs RUN - 1) % 4) v (next .run)) c) in
     (ap (λ (f : NextFrame). f .command) q, moves-as m (ap (λ (f : NextFrame). onCore (withCommandSequence (f .left)) (load xs)) q))
-
--- the values as a part of the slots
-values-part : (xs : List ℕ) → length xs ≡ slots → four (λ (i : ℕ). at xs (VALUES + i)) ≡ take 4 (drop VALUES xs)
-values-part xs n =
-    (λ j. entry 0 (omega arith) j ∷ entry 1 (omega arith) j ∷ entry 2 (omega arith) j ∷ entry 3 (omega arith) j ∷ [])
-    ∙ four-back 0 (take 4 (drop VALUES xs)) (length-take-le 4 (drop VALUES xs) (omega (arith, length-drop VALUES xs)))
-  where
-    entry : (i : ℕ) → i < 4 → at xs (VALUES + i) ≡ getD (take 4 (drop VALUES xs)) i 0
-    entry i h = sym (getD-take 4 (drop VALUES xs) i 0 h ∙ getD-drop VALUES xs i 0)
 
 -- a command is that of the next frame, and the run is stepped
 abbrev Stepped : List ℕ → List ℕ → Option MotorCommand → Type 0
