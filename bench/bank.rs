@@ -3,11 +3,11 @@
 //! sides every order to the hardware is looked at, and its number added to a sum: orders that nobody
 //! reads are orders that the compiler leaves out.
 
+use crate::bank_hardware::{Hardware, Ideal};
 use crate::bank_lanes::{Buffer, Lanes};
-use dshot_bank::{DshotBank, DshotMotor};
+use dshot_bank::{DshotBank, DshotInterruptEvent, DshotMotor, DshotServiceEvent};
 use ferrowasp_output::dshot::DshotTiming;
 use ferrowasp_output::dshot_reply::DshotReply;
-use std::cell::Cell;
 
 pub const LEASE_MS: u32 = 10;
 
@@ -33,11 +33,11 @@ pub struct Left {
     pub counts: [[u32; 4]; 6],
 }
 
-fn lanes<'a, const CALLS: bool>(
+fn lanes<'a, H>(
     cycles: &'a Cycles,
     current: &'static mut [Buffer; 4],
-    sum: &'a Cell<u32>,
-) -> Lanes<'a, CALLS> {
+    hardware: &'a H,
+) -> Lanes<'a, H> {
     Lanes {
         current: current.each_mut(),
         receives: cycles.bidirectional,
@@ -45,7 +45,7 @@ fn lanes<'a, const CALLS: bool>(
         mask: cycles.mask,
         captures: &cycles.captures,
         started: 0,
-        sum,
+        hardware,
     }
 }
 
@@ -55,8 +55,8 @@ pub fn original_cycles(cycles: &Cycles, left: &mut Left) {
     let buffers = Box::into_raw(Box::new(left.buffers));
     // The bank is gone before the box is taken back.
     let [current, spares] = unsafe { &mut *buffers }.each_mut();
-    let sum = Cell::new(0);
-    let lanes = lanes::<false>(cycles, current, &sum);
+    let hardware = Ideal::default();
+    let lanes = lanes(cycles, current, &hardware);
     let mut bank = DshotBank::from_lanes(lanes, spares.each_mut(), timing(cycles.timing));
     // Refused where the lanes do not receive.
     let _ = bank.enable_bidirectional();
@@ -67,7 +67,7 @@ pub fn original_cycles(cycles: &Cycles, left: &mut Left) {
             bank.on_dma_interrupt(DshotMotor::ALL[interrupt % 4]);
         }
     }
-    left.counts = counts(&mut bank, sum.get());
+    left.counts = counts(&mut bank, hardware.sum());
     drop(bank);
     left.buffers = *unsafe { Box::from_raw(buffers) };
 }
@@ -75,38 +75,55 @@ pub fn original_cycles(cycles: &Cycles, left: &mut Left) {
 /// The same, with each call of the bank a call of its own: a host's loop and its interrupt handlers
 /// do not see into each other.
 #[inline(never)]
-pub fn original_calls(cycles: &Cycles, left: &mut Left) {
+pub fn original_calls<H: Hardware>(cycles: &Cycles, left: &mut Left) {
     let buffers = Box::into_raw(Box::new(left.buffers));
     let [current, spares] = unsafe { &mut *buffers }.each_mut();
-    let sum = Cell::new(0);
-    let lanes = lanes::<true>(cycles, current, &sum);
+    let hardware = H::default();
+    let lanes = lanes(cycles, current, &hardware);
     let mut bank = DshotBank::from_lanes(lanes, spares.each_mut(), timing(cycles.timing));
     let _ = bank.enable_bidirectional();
     for (now_ms, throttles) in (0..).zip(&cycles.throttles) {
-        command(&mut bank, throttles, now_ms);
-        serve(&mut bank, now_ms);
+        unusual(&hardware, command(&mut bank, throttles, now_ms).into());
+        unusual(&hardware, serve(&mut bank, now_ms) as u32);
         for interrupt in 0..cycles.interrupts {
-            interrupted(&mut bank, DshotMotor::ALL[interrupt % 4]);
+            let event = interrupted(&mut bank, DshotMotor::ALL[interrupt % 4]);
+            unusual(&hardware, event as u32);
         }
     }
-    left.counts = counts(&mut bank, sum.get());
+    left.counts = counts(&mut bank, hardware.sum());
     drop(bank);
     left.buffers = *unsafe { Box::from_raw(buffers) };
 }
 
+/// A refusal, or an event other than a frame set that started or a lane that is done.
+#[inline(always)]
+fn unusual(hardware: &impl Hardware, number: u32) {
+    if number != 0 {
+        hardware.obey(number);
+    }
+}
+
+/// Whether the throttles were refused.
 #[inline(never)]
-fn command(bank: &mut DshotBank<Lanes<true>>, throttles: &[u16; 4], now_ms: u64) {
-    let _ = bank.command_throttles(*throttles, now_ms, LEASE_MS);
+fn command<H: Hardware>(
+    bank: &mut DshotBank<Lanes<H>>,
+    throttles: &[u16; 4],
+    now_ms: u64,
+) -> bool {
+    bank.command_throttles(*throttles, now_ms, LEASE_MS).is_err()
 }
 
 #[inline(never)]
-fn serve(bank: &mut DshotBank<Lanes<true>>, now_ms: u64) {
-    bank.service(now_ms);
+fn serve<H: Hardware>(bank: &mut DshotBank<Lanes<H>>, now_ms: u64) -> DshotServiceEvent {
+    bank.service(now_ms)
 }
 
 #[inline(never)]
-fn interrupted(bank: &mut DshotBank<Lanes<true>>, motor: DshotMotor) {
-    bank.on_dma_interrupt(motor);
+fn interrupted<H: Hardware>(
+    bank: &mut DshotBank<Lanes<H>>,
+    motor: DshotMotor,
+) -> DshotInterruptEvent {
+    bank.on_dma_interrupt(motor)
 }
 
 fn timing([arr, zero_high, one_high, reply_sample_arr]: [u16; 4]) -> DshotTiming {
@@ -118,7 +135,7 @@ fn timing([arr, zero_high, one_high, reply_sample_arr]: [u16; 4]) -> DshotTiming
     }
 }
 
-fn counts<const CALLS: bool>(bank: &mut DshotBank<Lanes<CALLS>>, sum: u32) -> [[u32; 4]; 6] {
+fn counts<H: Hardware>(bank: &mut DshotBank<Lanes<H>>, sum: u32) -> [[u32; 4]; 6] {
     let (stats, replies) = (bank.stats(), bank.reply_stats());
     let speeds = bank.take_replies().map_or([0; 4], |read| {
         read.map(|reply| match reply {
@@ -164,9 +181,9 @@ extern "C" {
     ) -> u32;
 }
 
-/// The refusal's number.
+/// A refusal leaves everything as it was, which is compared.
 #[inline(never)]
-pub fn library_cycles(cycles: &Cycles, left: &mut Left) -> u32 {
+pub fn library_cycles(cycles: &Cycles, left: &mut Left) {
     let [arr, zero, one, sample] = cycles.timing;
     let (throttles, captures) = (cycles.throttles.as_flattened(), &cycles.captures);
     let [first, second] = left.buffers.each_mut().map(|four| four.as_flattened_mut());
@@ -191,6 +208,6 @@ pub fn library_cycles(cycles: &Cycles, left: &mut Left) -> u32 {
             second.len(),
             counts.as_mut_ptr(),
             counts.len(),
-        )
+        );
     }
 }

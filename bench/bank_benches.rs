@@ -2,18 +2,22 @@
 //! interrupts, the lanes turned twice, and four absent windows that are decoded and counted.
 
 use crate::bank::{library_cycles, original_calls, original_cycles, Cycles, Left};
-use crate::bank_calls::called_cycles;
+use crate::bank_calls;
+use crate::bank_hardware::{Ideal, Registers};
 use crate::bank_inputs::cycles;
 use crate::benches::{pass, Bench};
 use std::rc::Rc;
 
 /// The original's cycles, and the library's.
 #[derive(Clone, Copy)]
-struct Sides(fn(&Cycles, &mut Left), fn(&Cycles, &mut Left) -> u32);
+struct Sides(fn(&Cycles, &mut Left), fn(&Cycles, &mut Left));
 
 /// In a loop of each side's own, or each call of the bank by itself, from the driver.
 const LOOPS: Sides = Sides(original_cycles, library_cycles);
-const CALLS: Sides = Sides(original_calls, called_cycles);
+const CALLS: Sides = Sides(original_calls::<Registers>, bank_calls::measured);
+
+/// The same calls, with the orders added up.
+const SUMMED: Sides = Sides(original_calls::<Ideal>, bank_calls::summed);
 
 /// All cycles of a run are one input.
 fn bench(name: &'static str, cycles: Cycles, Sides(original, library): Sides) -> Bench {
@@ -47,11 +51,11 @@ pub fn all() -> [Bench; 6] {
     runs().map(|(name, cycles, sides)| bench(name, cycles, sides))
 }
 
-fn same((_, cycles, Sides(original_side, library_side)): (&str, Cycles, Sides)) -> bool {
+fn same(cycles: &Cycles, Sides(original_side, library_side): Sides) -> bool {
     let [mut original, mut library] = [Left::default(); 2];
-    original_side(&cycles, &mut original);
-    let refusal = library_side(&cycles, &mut library);
-    refusal == 0 && original == library && whole(&cycles, &original)
+    original_side(cycles, &mut original);
+    library_side(cycles, &mut library);
+    original == library && whole(cycles, &original)
 }
 
 /// Every frame set was sent and done, and every reply that was there read as a speed.
@@ -74,5 +78,5 @@ fn whole(cycles: &Cycles, left: &Left) -> bool {
 
 /// The two sides are measured only where they give the same answers.
 pub fn agree() -> bool {
-    runs().into_iter().all(same)
+    runs().iter().all(|(_, cycles, sides)| same(cycles, *sides) && same(cycles, SUMMED))
 }

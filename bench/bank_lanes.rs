@@ -1,17 +1,15 @@
-//! The hardware under the source's bank: it does what it is asked to, adds up what it is ordered,
-//! and has four captures for every cycle, one behind the other.
+//! The lanes of the source's bank, over some hardware. They have four captures for every cycle, one
+//! behind the other.
 
+use crate::bank_hardware::Hardware;
 use dshot_bank::{DshotLanes, DshotMotor};
 use ferrowasp_output::dshot::{encode_compare_sequence, DshotPacket, DshotTiming};
 use ferrowasp_output::dshot_reply::REPLY_WINDOW_SAMPLES;
-use std::cell::Cell;
 
 /// The sixteen slots of one lane.
 pub type Buffer = [u16; 16];
 
-/// `CALLS` only makes two types of it, so that a bank in one loop and a bank whose calls stand alone
-/// are compiled apart, each as if it were the only one.
-pub struct Lanes<'a, const CALLS: bool> {
+pub struct Lanes<'a, H> {
     /// The buffers that the lanes are sending.
     pub current: [&'static mut Buffer; 4],
     pub receives: bool,
@@ -20,22 +18,17 @@ pub struct Lanes<'a, const CALLS: bool> {
     pub captures: &'a [u16],
     /// Frame sets so far.
     pub started: usize,
-    /// The sum of the orders' numbers and of the first duties.
-    pub sum: &'a Cell<u32>,
+    pub hardware: &'a H,
 }
 
-impl<const CALLS: bool> Lanes<'_, CALLS> {
-    fn add(&self, number: u32) {
-        self.sum.set(self.sum.get().wrapping_add(number));
-    }
-
+impl<H: Hardware> Lanes<'_, H> {
     /// Eight times the order's kind, and its motor, as the library's loop numbers them.
     fn order(&self, kind: u32, motor: usize) {
-        self.add(8 * kind + motor as u32);
+        self.hardware.obey(8 * kind + motor as u32);
     }
 }
 
-impl<const CALLS: bool> DshotLanes for Lanes<'_, CALLS> {
+impl<H: Hardware> DshotLanes for Lanes<'_, H> {
     type Buffer = Buffer;
 
     fn encode(packet: DshotPacket, timing: DshotTiming, buffer: &mut Buffer) -> u16 {
@@ -48,6 +41,9 @@ impl<const CALLS: bool> DshotLanes for Lanes<'_, CALLS> {
         next: &'static mut Buffer,
     ) -> Result<&'static mut Buffer, &'static mut Buffer> {
         self.order(1, motor.index());
+        if self.hardware.free(motor.index()) == 0 {
+            return Err(next);
+        }
         Ok(std::mem::replace(&mut self.current[motor.index()], next))
     }
 
@@ -58,7 +54,7 @@ impl<const CALLS: bool> DshotLanes for Lanes<'_, CALLS> {
     fn start_frame(&mut self, first_duties: [u16; 4]) {
         self.order(3, 0);
         for duty in first_duties {
-            self.add(duty.into());
+            self.hardware.obey(duty.into());
         }
         self.started += 1;
     }
@@ -71,8 +67,12 @@ impl<const CALLS: bool> DshotLanes for Lanes<'_, CALLS> {
         self.order(5, 0);
     }
 
-    fn dma_status(&self, _motor: DshotMotor) -> (bool, bool) {
-        (true, false)
+    fn dma_status(&self, motor: DshotMotor) -> (bool, bool) {
+        let (complete, failed) = (
+            self.hardware.complete(motor.index()),
+            self.hardware.failed(motor.index()),
+        );
+        (complete != 0, failed != 0)
     }
 
     fn pause_and_clear(&mut self, motor: DshotMotor) {
@@ -85,12 +85,12 @@ impl<const CALLS: bool> DshotLanes for Lanes<'_, CALLS> {
 
     fn begin_receive(&mut self) -> bool {
         self.order(7, 0);
-        true
+        self.hardware.turned() != 0
     }
 
     fn end_receive(&mut self) -> bool {
         self.order(8, 0);
-        true
+        self.hardware.turned_back() != 0
     }
 
     fn reply_samples(&self, motor: DshotMotor) -> Option<(&[u16], u16)> {

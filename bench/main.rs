@@ -4,6 +4,7 @@
 mod bank;
 mod bank_benches;
 mod bank_calls;
+mod bank_hardware;
 mod bank_inputs;
 mod bank_lanes;
 mod benches;

@@ -100,7 +100,7 @@ impl DshotPacket {
     }
 
     // A packet with either checksum.
-    fn of_kind(kind: ChecksumKind, value: u16, telemetry: bool) -> Self
+    pub fn of_kind(kind: ChecksumKind, value: u16, telemetry: bool) -> Self
         ensures { λ r. ⌜ r .0 ≡ packetWord (kindOf kind) value telemetry ⌝ }
     {
         match kind {

@@ -3,16 +3,13 @@
 use crate::slots;
 use dshot::ChecksumKind;
 use dshot::DshotPacket;
-use dshot::MotorPackets;
 use dshot::PacketMade;
-use dshot::TelemetryLane;
 ghost use mathlib.Core.Path.{_≡_};
 ghost use mathlib.Core.Bool.{not};
 ghost use lib.Dec.{eqb};
-ghost use lib.ListN.{length};
 ghost use Rattle.dshot_reply_spec.specs.Answer.{given, refusalNumber, filled};
 ghost use Rattle.dshot_spec.specs.Packet.{plain, inverted, packetWord, tryPacket, lane, motorPackets};
-ghost use Rattle.dshot.specs.Answers.{kindOf, words};
+ghost use Rattle.dshot.specs.Answers.{kindOf};
 ghost use Rattle.kuzhenga.specs.Slots.{asked, one};
 
 // The plain packet of `value` modulo 2048.
@@ -58,14 +55,7 @@ pub extern "C" fn kuzhenga_packet_try_from_value(
     }
 }
 
-// Puts the words of four packets into four slots.
-fn put_words(packets: MotorPackets, out: &mut [u16])
-    requires { ⌜ length (now out) ≡ 4 ⌝ }
-    ensures { λ r. ⌜ now (out .exit) ≡ words packets ⌝ }
-{
-    slots::put_four(out, packets[0].0, packets[1].0, packets[2].0, packets[3].0);
-}
-
+// A packet at a time, and not the four of `dshot` at once: those are inlined where a bank sends them, as long as nothing else calls for them.
 fn put_packets(
     kind: ChecksumKind,
     values: &[u16],
@@ -81,12 +71,10 @@ fn put_packets(
     if packets.len() != 4 {
         return 13;
     }
-    let made = dshot::packets_of_kind(
-        kind,
-        slots::four_values(values),
-        TelemetryLane::Lane(telemetry_lane),
-    );
-    put_words(made, packets);
+    for index in 0..4 {
+        let packet = DshotPacket::of_kind(kind, values[index], telemetry_lane == index);
+        packets[index] = packet.0;
+    }
     0
 }
 

@@ -1,49 +1,82 @@
--- `kuzhenga::packet::put_packets` meets its contract.
+-- `kuzhenga::packet::put_packets` meets its contract: before each turn of the loop the packets of the lanes so far are in their slots.
 -- Assumes nothing.
-use mathlib.Core.Path.{ap, _∙_}
+use mathlib.Core.Path.{_∙_}
 use mathlib.Core.List.{List}
-use Prim.Native.Nat.{ℕ}
-use Rattle.dshot_spec.specs.Packet.{lane, motorPackets}
+use Prim.Native.Nat.{ℕ, _-_}
+use lib.ListN.{getD}
+use Rattle.dshot_spec.specs.Packet.{packetWord, lane, asks, motorPackets}
 use Rattle.dshot.specs.Answers.{kindOf}
 use Rattle.dshot_reply_spec.proofs.Answered.{refused-so, given-so}
+use Rattle.dshot_spec.proofs.Tabulated.{Filled, filled-none, filled-more, filled-all}
 use Rattle.kuzhenga.proofs.SlotLaws.{asked-not, asked-so}
 use borrow.Author.Needs.{needs}
 use Rattle.kuzhenga.proofs.packet.put_packets.Statement.{statement}
 use Rattle.kuzhenga.proofs.packet.put_packets.Tie as tie
 
-returns : tie.Need-returns
+abbrev Inv-loop : tie.InvT-loop
+Inv-loop kind values telemetry-lane packets₀ index₀ packets index = Filled 4 (λ (i : ℕ). packetWord (kindOf kind) (getD values i 0) (asks (lane telemetry-lane) i)) packets₀ index packets
+
+abbrev μ-loop : tie.MeasureT-loop
+μ-loop kind values telemetry-lane packets₀ index₀ packets index = 4 - index
+
+returns : tie.Need-returns Inv-loop μ-loop
 returns c = refused-so (λ (l : List ℕ). l) _ (asked-not _ 4 _ (c .if1 .taken))
 
-returns-2 : tie.Need-returns-2
+returns-2 : tie.Need-returns-2 Inv-loop μ-loop
 returns-2 c = refused-so (λ (l : List ℕ). l) _ (asked-so _ 4 _ (c .before .if1 .left) ∙ asked-not _ 4 _ (c .if2 .taken))
 
-four-values-requires : tie.Need-four-values-requires
-four-values-requires c κs = search needs
+loop-holds : tie.Need-loop-holds Inv-loop μ-loop
+loop-holds c = filled-none (c .if2 .left)
 
-packets-of-kind-requires : tie.Need-packets-of-kind-requires
-packets-of-kind-requires c κs = search needs
+mul-of-kind : tie.Need-mul-of-kind Inv-loop μ-loop
+mul-of-kind c = search needs
 
-put-words-requires : tie.Need-put-words-requires
-put-words-requires c κs = search needs
+shared-slice-read-of-kind : tie.Need-shared-slice-read-of-kind Inv-loop μ-loop
+shared-slice-read-of-kind c = search needs
 
-same-length : tie.Need-same-length
+of-kind-requires : tie.Need-of-kind-requires Inv-loop μ-loop
+of-kind-requires c κs = search needs
+
+mul-packets : tie.Need-mul-packets Inv-loop μ-loop
+mul-packets c = search needs
+
+slice-write-packets : tie.Need-slice-write-packets Inv-loop μ-loop
+slice-write-packets c = search needs
+
+add-index : tie.Need-add-index Inv-loop μ-loop
+add-index c = search needs
+
+loop-less : tie.Need-loop-less Inv-loop μ-loop
+loop-less c = search needs
+
+loop-again : tie.Need-loop-again Inv-loop μ-loop
+loop-again c = let l = c .before .before .before .loop in filled-more (l .inv) (c .before .before .loop-test .taken) (c .of-kind .ensures)
+
+same-length : tie.Need-same-length Inv-loop μ-loop
 same-length c = search needs
 
-returns-3 : tie.Need-returns-3
+returns-3 : tie.Need-returns-3 Inv-loop μ-loop
+unfolding motorPackets
 returns-3 c =
-    let a = c .before .before .before .before .before .before .before .before .before .before .args in
-    given-so (λ (l : List ℕ). l) _ (asked-so _ 4 _ (c .before .before .before .before .before .before .before .if1 .left) ∙ asked-so _ 4 _ (c .before .before .before .before .before .before .if2 .left))
-    (c .before .before .put-words .ensures ∙ c .before .before .before .before .packets-of-kind .ensures
-    ∙ ap (λ (vs : List ℕ). motorPackets 4 (kindOf (a .kind)) vs (lane (a .telemetry-lane))) (c .before .before .before .before .before .four-values .ensures))
+    given-so (λ (l : List ℕ). l) _ (asked-so _ 4 _ (c .before .before .before .if1 .left) ∙ asked-so _ 4 _ (c .before .before .if2 .left))
+    (filled-all (c .before .loop .inv) (c .loop-test .left))
 
 pub put-packets-spec : {M : Type 1} → statement M
 put-packets-spec =
     tie.close
     (tie.spec
+    Inv-loop
+    μ-loop
     returns
     returns-2
-    four-values-requires
-    packets-of-kind-requires
-    put-words-requires
+    loop-holds
+    mul-of-kind
+    shared-slice-read-of-kind
+    of-kind-requires
+    mul-packets
+    slice-write-packets
+    add-index
+    loop-less
+    loop-again
     same-length
     returns-3)
