@@ -25,7 +25,7 @@ struct hardware {
 
 struct host {
     uint16_t bank[KUZHENGA_BANK_SLOTS];
-    uint16_t lanes[KUZHENGA_LANES_SLOTS];
+    uint16_t lanes[KUZHENGA_HARDWARE_SLOTS];
     uint16_t answer[KUZHENGA_SERVICE_SLOTS];
     struct hardware hardware;
 };
@@ -58,7 +58,7 @@ static inline void serve(struct host *host, uint64_t now_ms, const struct cycles
 {
     for (unsigned lane = 0; lane < KUZHENGA_LANES; lane++)
         host->lanes[KUZHENGA_TAKEN + lane] = host->hardware.free[lane];
-    unusual(host, kuzhenga_bank_service(host->bank, KUZHENGA_BANK_SLOTS, now_ms, host->lanes, KUZHENGA_LANES_SLOTS,
+    unusual(host, kuzhenga_bank_service(host->bank, KUZHENGA_BANK_SLOTS, now_ms, host->lanes, KUZHENGA_HARDWARE_SLOTS,
                                         cycles->first, KUZHENGA_BUFFER_SLOTS, cycles->second, KUZHENGA_BUFFER_SLOTS,
                                         captures, KUZHENGA_CAPTURE_SAMPLES, host->answer, KUZHENGA_SERVICE_SLOTS));
     obey_answer(host);
@@ -103,7 +103,7 @@ static void count(struct host *host, uint32_t counts[24])
         for (size_t row = 0; row < 3; row++)
             counts[4 + 4 * row + lane] = kuzhenga_count(replies, 4 * row + lane);
         /* A refusal, and zeros where none are held, show as 0. */
-        counts[16 + lane] = kuzhenga_reading_number(kuzhenga_taken_reply(taken, lane) + 1);
+        counts[16 + lane] = kuzhenga_reading_number(kuzhenga_lane_reply(taken, lane) + 1);
     }
     counts[20] = kuzhenga_count(stats, 0);
     counts[21] = kuzhenga_count(stats, 1);

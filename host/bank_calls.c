@@ -143,12 +143,12 @@ static int unroll(uint16_t *samples, size_t room, const uint64_t *runs, size_t c
 static int service(struct kept *kept, const struct line *line, struct outcome *outcome)
 {
     const uint64_t *given = line->given;
-    uint16_t captures[MOST_SAMPLES] = {0}, lanes[KUZHENGA_LANES_SLOTS], told[KUZHENGA_SERVICE_SLOTS] = {0};
+    uint16_t captures[MOST_SAMPLES] = {0}, lanes[KUZHENGA_HARDWARE_SLOTS], told[KUZHENGA_SERVICE_SLOTS] = {0};
     size_t runs = line->count - 17;
     if (runs % 2 != 0 || runs / 2 != given[16] || !unroll(captures, given[15], given + 17, runs))
         return 0;
-    narrow(lanes, given + 1, KUZHENGA_LANES_SLOTS);
-    uint32_t refusal = kuzhenga_bank_service(BANK, given[0], lanes, KUZHENGA_LANES_SLOTS, kept->first, given[13],
+    narrow(lanes, given + 1, KUZHENGA_HARDWARE_SLOTS);
+    uint32_t refusal = kuzhenga_bank_service(BANK, given[0], lanes, KUZHENGA_HARDWARE_SLOTS, kept->first, given[13],
                                              kept->second, given[14], captures, given[15], told,
                                              KUZHENGA_SERVICE_SLOTS);
     keep_orders(outcome, told, KUZHENGA_FIRST_DUTY - KUZHENGA_FIRST_ORDER);
@@ -248,7 +248,7 @@ static int set_stats(struct kept *kept, const struct line *line, struct outcome 
 {
     (void)outcome;
     for (size_t i = 0; i < line->count; i++)
-        put_count(kept->bank + COUNTS + 2 * i, line->given[i]);
+        put_count(kept->bank + KUZHENGA_BANK_COUNTS + 2 * i, line->given[i]);
     return 1;
 }
 
@@ -258,7 +258,7 @@ static int set_reply_stats(struct kept *kept, const struct line *line, struct ou
     (void)outcome;
     for (size_t i = 0; i < line->count; i++) {
         size_t lane = i % KUZHENGA_LANES, which = i / KUZHENGA_LANES;
-        put_count(kept->bank + REPLIES + REPLY_SLOTS * lane + REPLY_COUNTS + 2 * which, line->given[i]);
+        put_count(kept->bank + KUZHENGA_BANK_REPLIES + REPLY_SLOTS * lane + REPLY_COUNTS + 2 * which, line->given[i]);
     }
     return 1;
 }

@@ -65,8 +65,8 @@ static void put_orders(const struct outcome *outcome)
 
 static void put_lease(const uint16_t *bank)
 {
-    uint64_t over = long_at(bank + LEASE_OVER);
-    number(long_at(bank + LEASE_STARTED));
+    uint64_t over = long_at(bank + KUZHENGA_BANK_LEASE_OVER);
+    number(long_at(bank + KUZHENGA_BANK_LEASE_STARTED));
     number(over != 0);
     if (over != 0)
         number(over - 1);
@@ -94,39 +94,39 @@ static void put_reply(const uint16_t *lane)
 
 static void put_replies(const uint16_t *bank)
 {
-    number(bank[HELD]);
-    for (size_t lane = 0; bank[HELD] != 0 && lane < KUZHENGA_LANES; lane++)
-        put_reply(bank + REPLIES + REPLY_SLOTS * lane);
+    number(bank[KUZHENGA_BANK_REPLIES_HELD]);
+    for (size_t lane = 0; bank[KUZHENGA_BANK_REPLIES_HELD] != 0 && lane < KUZHENGA_LANES; lane++)
+        put_reply(bank + KUZHENGA_BANK_REPLIES + REPLY_SLOTS * lane);
 }
 
 static void put_counts(const uint16_t *bank)
 {
     for (size_t i = 0; i < STATS; i++)
-        number(kuzhenga_count(bank + COUNTS, i));
+        number(kuzhenga_count(bank + KUZHENGA_BANK_COUNTS, i));
     for (size_t which = 0; which < LANE_COUNTS; which++)
         for (size_t lane = 0; lane < KUZHENGA_LANES; lane++)
-            number(kuzhenga_count(bank + REPLIES + REPLY_SLOTS * lane + REPLY_COUNTS, which));
+            number(kuzhenga_count(bank + KUZHENGA_BANK_REPLIES + REPLY_SLOTS * lane + REPLY_COUNTS, which));
 }
 
 /* Flags and lanes are printed as the slots have them, so that one that is not as the header says would show. */
 static void put_fields(const uint16_t *bank)
 {
-    slots(bank + TIMING, KUZHENGA_TIMING_SLOTS);
-    slots(bank + VALUES, KUZHENGA_LANES);
+    slots(bank + KUZHENGA_BANK_TIMING, KUZHENGA_TIMING_SLOTS);
+    slots(bank + KUZHENGA_BANK_VALUES, KUZHENGA_LANES);
     put_lease(bank);
-    number(bank[REQUEST]);
-    number(bank[REQUEST_SENT]);
-    slots(bank + RUN, bank[RUN] != 0 ? 1 + KUZHENGA_RUN_SLOTS : 1);
-    number(long_at(bank + STARTED));
-    number(kuzhenga_count(bank + COMPLETION, 0));
-    number(bank[BUSY]);
-    number(bank[FAULTED]);
-    number(bank[BIDIRECTIONAL]);
-    number(bank[RECEIVING]);
-    number(bank[WAITING]);
+    number(bank[KUZHENGA_BANK_REQUEST]);
+    number(bank[KUZHENGA_BANK_REQUEST_SENT]);
+    slots(bank + KUZHENGA_BANK_RUN, bank[KUZHENGA_BANK_RUN] != 0 ? 1 + KUZHENGA_RUN_SLOTS : 1);
+    number(long_at(bank + KUZHENGA_BANK_FRAME_STARTED));
+    number(kuzhenga_count(bank + KUZHENGA_BANK_COMPLETION_MASK, 0));
+    number(bank[KUZHENGA_BANK_BUSY]);
+    number(bank[KUZHENGA_BANK_FAULTED]);
+    number(bank[KUZHENGA_BANK_BIDIRECTIONAL]);
+    number(bank[KUZHENGA_BANK_RECEIVING]);
+    number(bank[KUZHENGA_BANK_REPLIES_WAITING]);
     put_replies(bank);
     put_counts(bank);
-    slots(bank + IN_SECOND, KUZHENGA_LANES);
+    slots(bank + KUZHENGA_BANK_IN_SECOND, KUZHENGA_LANES);
 }
 
 /* ---- the slots that a call changed ---------------------------------------------------------------------------- */

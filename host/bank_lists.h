@@ -10,27 +10,9 @@ enum {
     MOST_ORDERS = 9
 };
 
-/* Where the fields of a bank lie among its slots, as the header's table has them. */
+/* Of the slots of a lane's reply, after KUZHENGA_BANK_REPLIES. */
 enum {
-    TIMING = 0,
-    VALUES = 4,
-    LEASE_STARTED = 8,
-    LEASE_OVER = 12,
-    REQUEST = 16,
-    REQUEST_SENT = 17,
-    RUN = 18,
-    BUSY = 23,
-    FAULTED = 24,
-    BIDIRECTIONAL = 25,
-    RECEIVING = 26,
-    WAITING = 27,
-    HELD = 28,
-    IN_SECOND = 29,
-    COMPLETION = 33,
-    STARTED = 35,
-    COUNTS = 39,
-    REPLIES = 61,
-    REPLY_SLOTS = 9, /* of a lane */
+    REPLY_SLOTS = 9,
     REPLY_COUNTS = 3 /* where in these its counts begin */
 };
 

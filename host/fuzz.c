@@ -329,7 +329,7 @@ static void bank_commands(void)
 
 static void bank_cycle(void)
 {
-    struct slice *bank = lend(KUZHENGA_BANK_SLOTS, 2), *lanes = show(KUZHENGA_LANES_SLOTS, 2);
+    struct slice *bank = lend(KUZHENGA_BANK_SLOTS, 2), *lanes = show(KUZHENGA_HARDWARE_SLOTS, 2);
     struct slice *first = lend(KUZHENGA_BUFFER_SLOTS, 2), *second = lend(KUZHENGA_BUFFER_SLOTS, 2);
     struct slice *samples = show(KUZHENGA_CAPTURE_SAMPLES, 2), *out = lend(KUZHENGA_SERVICE_SLOTS, 2);
     check("bank_service", kuzhenga_bank_service(SLOTS(bank), clock_ms(), SLOTS(lanes), SLOTS(first), SLOTS(second),

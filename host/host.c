@@ -4,7 +4,6 @@
  *   host CAPTURE
  */
 #include <stdio.h>
-#include <string.h>
 
 #include "kuzhenga.h"
 
@@ -53,13 +52,13 @@ static void obey(const uint16_t *answer)
 static uint32_t serve(uint64_t now_ms)
 {
     uint16_t answer[KUZHENGA_SERVICE_SLOTS];
-    uint16_t lanes[KUZHENGA_LANES_SLOTS];
+    uint16_t lanes[KUZHENGA_HARDWARE_SLOTS];
     for (unsigned i = 0; i < KUZHENGA_LANES; i++) {
         lanes[KUZHENGA_TAKEN + i] = 1;
         lanes[KUZHENGA_PRESENT + i] = 1;
         lanes[KUZHENGA_MASKS + i] = (uint16_t)(1u << i);
     }
-    uint32_t r = kuzhenga_bank_service(bank, KUZHENGA_BANK_SLOTS, now_ms, lanes, KUZHENGA_LANES_SLOTS, first,
+    uint32_t r = kuzhenga_bank_service(bank, KUZHENGA_BANK_SLOTS, now_ms, lanes, KUZHENGA_HARDWARE_SLOTS, first,
                                        KUZHENGA_BUFFER_SLOTS, second, KUZHENGA_BUFFER_SLOTS, samples,
                                        KUZHENGA_CAPTURE_SAMPLES, answer, KUZHENGA_SERVICE_SLOTS);
     if (r != KUZHENGA_DONE)
@@ -110,7 +109,7 @@ static uint32_t print_replies(void)
     if (r != KUZHENGA_DONE)
         return r;
     for (unsigned i = 0; i < KUZHENGA_LANES; i++) {
-        const uint16_t *reply = kuzhenga_taken_reply(taken, i);
+        const uint16_t *reply = kuzhenga_lane_reply(taken, i);
         if (reply[0] != 0)
             printf("lane %u: refused %u\n", i, reply[0]);
         else

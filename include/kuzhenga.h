@@ -9,12 +9,15 @@
  * The library keeps no pointer, allocates nothing and has no state of its own.
  *
  * What no call can check: a slice that is written must not overlap another slice of the same call, and a
- * pointer must lead to as many elements as the call is told, aligned for their type.
+ * pointer must lead to as many elements as the call is told, aligned for their type. Two calls on the same
+ * slots must not run at once: a host that calls kuzhenga_bank_on_dma_interrupt from an interrupt holds that
+ * interrupt off during every other call on the bank.
  *
- * A flag of 0 is no, any other number yes. A number wider than what it stands for is said so at its call.
+ * A flag of 0 is no, any other number yes. Where a number is wider than what it stands for, its call says what
+ * counts.
  * A number of 32 bits in slots of 16 takes two, one of 64 bits four, the lowest bits first.
  *
- * The contract of each call is in crates/kuzhenga/src, with the same name.
+ * The promise of each call is in crates/kuzhenga/src, with the same name.
  */
 #ifndef KUZHENGA_H
 #define KUZHENGA_H
@@ -31,13 +34,13 @@ extern "C" {
 enum {
     KUZHENGA_DONE = 0,
     /* because of the input */
-    KUZHENGA_ZERO_CLOCK = 1,
+    KUZHENGA_ZERO_TIMER_CLOCK = 1,
     KUZHENGA_ZERO_BITRATE = 2,
     KUZHENGA_PERIOD_TOO_SHORT = 3,
     KUZHENGA_PERIOD_TOO_LONG = 4,
     KUZHENGA_VALUE_OUT_OF_RANGE = 5,    /* a packet's value above 2047 */
     KUZHENGA_THROTTLE_OUT_OF_RANGE = 6, /* a throttle above 2000 */
-    KUZHENGA_NO_REPLY = 7,
+    KUZHENGA_NO_REPLY = 7,              /* 7 to 11: of a capture or a value that is read */
     KUZHENGA_OVERLONG = 8,
     KUZHENGA_INVALID_SYMBOL = 9,
     KUZHENGA_CHECKSUM = 10,
@@ -45,13 +48,13 @@ enum {
     KUZHENGA_NO_SUCH_MOTOR = 12,        /* a lane above 3 */
     KUZHENGA_NO_MASK = 12,              /* mask 0 where a capture is made */
     KUZHENGA_WRONG_LENGTH = 13,
-    KUZHENGA_WRONG_DUTY = 14,
-    KUZHENGA_WRONG_PACKET = 15,
+    KUZHENGA_WRONG_DUTY = 14,           /* neither high time, a last slot not 0, or equal high times */
+    KUZHENGA_PACKET_CHECKSUM = 15,      /* neither plain nor inverted */
     KUZHENGA_PERIOD_OUT_OF_RANGE = 16,  /* of the simulated ESC: 0, or above 65535 */
     KUZHENGA_NOT_A_CAPTURE = 17,
     /* because of the bank's state */
     KUZHENGA_FAULTED = 18,
-    KUZHENGA_MOTORS_RUNNING = 19,
+    KUZHENGA_MOTORS_RUNNING = 19,       /* a lease, or a requested value other than 0 */
     KUZHENGA_COMMAND_PENDING = 20,
     KUZHENGA_TELEMETRY_PENDING = 21,
     KUZHENGA_REPLIES_UNSUPPORTED = 22
@@ -65,18 +68,18 @@ enum {
     KUZHENGA_RUN_SLOTS = 4,        /* two commands, the index, how often the command is still to be sent */
     KUZHENGA_FRAME_SLOTS = 22,     /* a packet's frame */
     KUZHENGA_SEQUENCE_SLOTS = 16,  /* a packet's sequence, after its first duty */
-    KUZHENGA_READ_SLOTS = 3,       /* of a frame that is read: value, telemetry bit, 0 plain or 1 inverted */
+    KUZHENGA_FRAME_READ_SLOTS = 3, /* of a frame that is read: value, telemetry bit, 0 plain or 1 inverted */
     KUZHENGA_READING_SLOTS = 3,    /* of a reply: kind, and number in two slots */
     KUZHENGA_WINDOW_SAMPLES = 160, /* a lane's window */
-    KUZHENGA_CAPTURE_SAMPLES = 4 * 160,
+    KUZHENGA_CAPTURE_SAMPLES = 4 * 160, /* the windows of a bank's four lanes */
     KUZHENGA_BUFFER_SLOTS = 4 * 16, /* each of the two sequence buffers of a bank */
     KUZHENGA_BANK_SLOTS = 97,
-    KUZHENGA_LANES_SLOTS = 12,      /* the hardware's answers to a service */
+    KUZHENGA_HARDWARE_SLOTS = 12,   /* the hardware's answers to a service */
     KUZHENGA_SERVICE_SLOTS = 15,    /* what a service answers */
     KUZHENGA_INTERRUPT_SLOTS = 9,   /* what an interrupt answers */
     KUZHENGA_STATS_SLOTS = 22,
     KUZHENGA_REPLY_STATS_SLOTS = 24,
-    KUZHENGA_REPLIES_SLOTS = 17,      /* the replies of a bank */
+    KUZHENGA_REPLIES_SLOTS = 17,    /* the replies of a bank */
     KUZHENGA_FILE_SAMPLES = 4096,   /* the most samples of a capture file */
     KUZHENGA_FILE_BYTES = 12294,    /* the longest capture file */
     KUZHENGA_LINE_BYTES = 32        /* room for the bench's line */
@@ -89,7 +92,7 @@ enum {
     KUZHENGA_TEMP = 1,  /* degrees Celsius */
     KUZHENGA_VOLT = 2,  /* quarters of a volt */
     KUZHENGA_AMP = 3,   /* amperes */
-    KUZHENGA_DEBUG1 = 4,
+    KUZHENGA_DEBUG1 = 4, /* of the debug kinds and of state: a byte */
     KUZHENGA_DEBUG2 = 5,
     KUZHENGA_DEBUG3 = 6,
     KUZHENGA_STATE = 7,
@@ -151,7 +154,7 @@ uint32_t kuzhenga_write_capture(const uint16_t *samples, size_t samples_len, uin
                                 uint16_t *length, size_t length_len /* 1 */);
 
 /* The bench's line of a file, with its line feed, zeros after it; how long it is in one slot: 13. A file that
- * is none has the line "refused 17". */
+ * is none has the line "refused 17". Takes about 8 KiB of stack. */
 uint32_t kuzhenga_list_capture(const uint8_t *file, size_t file_len, uint8_t *line, size_t line_len /* 32 */,
                                uint16_t *length, size_t length_len /* 1 */);
 
@@ -215,7 +218,8 @@ uint32_t kuzhenga_command_spin_direction(uint32_t reversed, uint16_t *run, size_
 uint32_t kuzhenga_command_next_value(uint16_t *run, size_t run_len /* 4 */, uint16_t *value,
                                      size_t value_len /* 2 */);
 
-/* 1 once a lease is older than its duration, else 0. A clock before its start counts as later, around 2^64. */
+/* 1 once a lease is older than its duration, else 0. The difference is taken modulo 2^64: a clock before the
+ * start counts as expired, unless that difference falls within the lease. */
 uint32_t kuzhenga_command_lease_expired(uint64_t started_ms, uint32_t duration_ms, uint64_t now_ms);
 
 /* ---- the bank -------------------------------------------------------------------------------------------
@@ -229,19 +233,21 @@ uint32_t kuzhenga_command_lease_expired(uint64_t started_ms, uint32_t duration_m
  *  12  0 without a lease, else its duration in ms + 1, 64 bits
  *  16  telemetry request: 0 for none, else lane + 1
  *  17  telemetry request sent by the last service: the same
- *  18  command run: 0 for none, else lane + 1; then first command, second, index, repeats left
+ *  18  command run: 0 for none, else lane + 1; then first command, second, index, repeats left (0 without one)
  *  23  busy   24 faulted   25 bidirectional   26 receiving   27 replies waiting   28 replies held
  *  29  for each lane 1 where the second buffer holds what it is sending, 0 where the first does
  *  33  completion mask, 32 bits, bit n for lane n
  *  35  frame_started_ms, 64 bits
  *  39  the counts, in the order of kuzhenga_bank_stats
  *  61  nine slots a lane: the reply's kind (0 erpm, 1 temp, 2 volt, 3 amp, 4 debug, 5 state, 6 edt, 7 to 11
- *      the refusal), its number (32 bits; of debug 256 x channel + value), and the counts valid, invalid and
- *      invalid in a row (32 bits each)
+ *      the refusal), its number (32 bits; of debug 256 x channel + value; of edt and a refusal 0), and the
+ *      counts valid, invalid and invalid in a row (32 bits each)
  *
  * Other contents than these count so: a flag above 1 is yes; a lane is the slot less one, modulo 4; of the
  * index and the repeats the low byte counts, of a reading's number the low byte, but all of a speed's and two
- * bytes of debug's; a kind above 11 is 7. The kinds of stored replies are not those of readings.
+ * bytes of debug's; a kind above 11 is 7. After a call on such contents the slots mean the bank after it; which of
+ * the slots that mean it they are is not promised. A refusal leaves them all. The kinds of stored replies are not
+ * those of readings.
  *
  * The hardware's answers come with a call, and the orders to it leave in the answer, to be done in their
  * order. An answer that a call does not ask for counts for nothing; one that it asks for (whether a lane takes
@@ -251,9 +257,10 @@ uint32_t kuzhenga_command_lease_expired(uint64_t started_ms, uint32_t duration_m
  * A frame set goes so: a service starts it; one interrupt for each lane's stream; of a bidirectional bank the
  * last of these orders the lanes to receive, and one interrupt for each window follows, the last of which orders
  * them back; the next service reads the windows and starts the next set. A service while a set is in flight
- * answers busy, and latches a fault where the set is more than 1 ms old; so does an interrupt that no stream
- * of a set is due, an error, or lanes that do not turn. A latched fault forces the outputs low and ends only
- * with a new bank.
+ * starts nothing and answers busy, or lease expired where the lease ends there. A fault is latched by a service
+ * that finds a set more than 1 ms old or a lane that does not take its buffer, and by an interrupt that is not
+ * due (no set in flight, or the lane done already), of a stream in error or not complete, or after which the
+ * lanes do not turn. It forces the outputs low and ends only with a new bank.
  */
 
 /* A new bank of a timing, in one direction; the first buffer is current, the second spare: 13. */
@@ -288,7 +295,9 @@ uint32_t kuzhenga_bank_take_telemetry_request_sent(uint16_t *bank, size_t bank_l
 
 /* Orders to the hardware: eight times the kind, and the lane, 0 where the order is for all. */
 enum {
-    KUZHENGA_EXCHANGE_BUFFER = 1,   /* swap the lane's spare in as its DMA buffer */
+    KUZHENGA_EXCHANGE_BUFFER = 1,   /* give the lane n its next DMA buffer: from slot 16 n of `second` where slot
+                                       KUZHENGA_BANK_IN_SECOND + n of the bank is 1 after the call, else of
+                                       `first`; of a lane that did not take it, the other one */
     KUZHENGA_START_DMA = 2,         /* enable the lane's stream */
     KUZHENGA_START_FRAME = 3,       /* load the first duties, open the timer's DMA requests, start the timers */
     KUZHENGA_STOP_FRAME = 4,        /* close the requests, stop the timers, park every output low */
@@ -311,8 +320,17 @@ static inline unsigned kuzhenga_order_lane(uint16_t order)
 /* What a service or an interrupt answers: slot 0 the event, slot 1 how many orders, then the orders, zeros
  * after them. A service has nine slots for orders, and then the four first duties for KUZHENGA_START_FRAME
  * (zeros without it); an interrupt has seven. */
-enum { KUZHENGA_FRAME_STARTED = 0, KUZHENGA_BUSY = 1, KUZHENGA_LEASE_EXPIRED = 2, KUZHENGA_SERVICE_FAULTED = 3 };
-enum { KUZHENGA_COMPLETED = 0, KUZHENGA_INTERRUPT_FAULTED = 1, KUZHENGA_SPURIOUS = 2 };
+enum {
+    KUZHENGA_FRAME_STARTED = 0,
+    KUZHENGA_BUSY = 1,           /* a set is in flight; no orders */
+    KUZHENGA_LEASE_EXPIRED = 2,  /* a set without throttle was started, or, with no orders, one is in flight */
+    KUZHENGA_SERVICE_FAULTED = 3 /* a fault was latched, with its orders, or had been before, with none */
+};
+enum {
+    KUZHENGA_COMPLETED = 0,
+    KUZHENGA_INTERRUPT_FAULTED = 1, /* latched by this call, or before: then the lane's pause is the one order */
+    KUZHENGA_SPURIOUS = 2           /* latched: not due, or not complete */
+};
 
 enum { KUZHENGA_EVENT = 0, KUZHENGA_ORDERS = 1, KUZHENGA_FIRST_ORDER = 2, KUZHENGA_FIRST_DUTY = 11 };
 
@@ -321,8 +339,10 @@ enum { KUZHENGA_TAKEN = 0, KUZHENGA_PRESENT = 4, KUZHENGA_MASKS = 8 };
 
 /* Ends an expired lease, times out a frame in flight, reads the replies that wait, and sends the next frame
  * set: 13. `lanes` has four slots for whether each lane takes its buffer, four for whether it has a capture, and
- * four for the masks of these; lane n's sequence is written to slot 16 n of its spare, and its window is the 160 samples from
- * 160 n. What a window reads as, a refusal too, is stored and is no refusal of the call. */
+ * four for the masks of these; lane n's sequence is written from slot 16 n of its spare, and its window is the
+ * 160 samples from 160 n. What a window reads as, a refusal too, is stored and is no refusal of the call.
+ * Windows are read with EDT off: a frame of extended telemetry reads as a speed there, so it is not to be
+ * enabled on an ESC that a bank reads. */
 uint32_t kuzhenga_bank_service(uint16_t *bank, size_t bank_len, uint64_t now_ms, const uint16_t *lanes,
                                size_t lanes_len /* 12 */, uint16_t *first, size_t first_len /* 64 */,
                                uint16_t *second, size_t second_len /* 64 */, const uint16_t *captures,
@@ -335,7 +355,8 @@ uint32_t kuzhenga_bank_on_dma_interrupt(uint16_t *bank, size_t bank_len, size_t 
                                         uint32_t turned_back, uint16_t *answer, size_t answer_len /* 9 */);
 
 /* Takes the replies that were decoded since the last call, once: 13. Slot 0 is 1, and lane n has four slots
- * from 1 + 4 n: 0, kind and number, or the refusal's number and zeros. Where none are held all are 0. */
+ * from 1 + 4 n: 0, kind and number, or the refusal's number and zeros. Where none are held all are 0. Kind 9 is
+ * none: a debug channel other than 1 to 3, which no state that the library wrote holds. */
 uint32_t kuzhenga_bank_take_replies(uint16_t *bank, size_t bank_len, uint16_t *replies,
                                     size_t replies_len /* 17 */);
 
@@ -378,7 +399,7 @@ enum {
 };
 
 /* The four slots of lane n in the replies that were taken. */
-static inline const uint16_t *kuzhenga_taken_reply(const uint16_t *replies, size_t n)
+static inline const uint16_t *kuzhenga_lane_reply(const uint16_t *replies, size_t n)
 {
     return replies + 1 + 4 * n;
 }
@@ -394,7 +415,8 @@ uint32_t kuzhenga_bank_sending(const uint16_t *bank, size_t bank_len, const uint
                                size_t first_len /* 64 */, const uint16_t *second, size_t second_len /* 64 */,
                                size_t motor, uint16_t *slots, size_t slots_len /* 16 */);
 
-/* 1 where no frame set was released for two milliseconds, on a clock of 32 bits that may wrap, else 0. */
+/* 1 where no frame set was released for two milliseconds, on a clock of 32 bits that may wrap, else 0: a host
+ * without new throttles then calls kuzhenga_bank_service, which also finds a lease that was not renewed. */
 uint32_t kuzhenga_fallback_release_due(uint32_t now_ms, uint32_t last_release_ms);
 
 #ifdef __cplusplus

@@ -19,8 +19,6 @@
 
 #include <stdio.h>
 
-enum { MOST_SAMPLES = 4096, FILE_BYTES = 12294 };
-
 static const char usage[] =
     "usage: make_capture --value HEX | --period US | --none [--lead N] [--mask N] [--samples N]\n"
     "                    [--edt] [--jitter SEED] [--damage BIT | --move FROM,TO]\n";
@@ -102,11 +100,11 @@ static bool draw(const struct options *options, uint16_t *samples) {
 }
 
 static int write_file(const struct options *options, const uint16_t *samples) {
-    static uint8_t file[FILE_BYTES];
+    static uint8_t file[KUZHENGA_FILE_BYTES];
     uint16_t length[1] = {0};
     if (refused("write a capture",
                 kuzhenga_write_capture(samples, options->number[SAMPLES], options->number[MASK],
-                                       options->extended_telemetry, file, FILE_BYTES, length, 1))) {
+                                       options->extended_telemetry, file, KUZHENGA_FILE_BYTES, length, 1))) {
         return 1;
     }
     if (fwrite(file, 1, length[0], stdout) != length[0] || fflush(stdout) != 0) {
@@ -117,7 +115,7 @@ static int write_file(const struct options *options, const uint16_t *samples) {
 }
 
 int main(int count, char **words) {
-    static uint16_t samples[MOST_SAMPLES];
+    static uint16_t samples[KUZHENGA_FILE_SAMPLES];
     struct options options;
     if (!read_options(count, words, &options)) {
         fputs(usage, stderr);
