@@ -14,4 +14,6 @@ pub mod Counted
 pub mod FieldLaws
 pub mod Stored
 pub mod CalledStored
+pub mod HiddenSlots
 pub mod SlotsIsolated
+pub mod SlotsFollow

@@ -1,7 +1,7 @@
 -- Demand 3 of lists of exported calls on one state slice: each call shows what the bank's own call does, looks change nothing, and one lane's
 -- captures change nothing but that lane's replies and reply counts.
 -- Assumes nothing.
-use mathlib.Core.Path.{_≡_, _∙_, refl, sym, ap}
+use mathlib.Core.Path.{_≡_, _∙_, refl, sym, ap, subst}
 use mathlib.Core.Bool.{Bool, true, false}
 use mathlib.Core.List.{List, [], _∷_, map}
 use Prim.Native.Nat.{ℕ}
@@ -14,27 +14,29 @@ use Rattle.dshot_bank_spec.proofs.Refusals.{looks-keep}
 use Rattle.bank_slots_spec.specs.Layout.{load}
 use Rattle.bank_slots_spec.specs.Called.{Called, number, stateAt, answerOf, bankAfter, buffersAfter}
 use Rattle.bank_slots_spec.specs.Outs.{outAfter}
-use Rattle.bank_slots_spec.specs.SlotLists.{Made, made, madeTrace, madeRun, Shown, shownBy, shownAll, fitting, fittingOf, actingMade, actingMadeOf, Ran, none-left, one-more, MadeAlike, both-end, both-more, SlotsIsolated}
+use Rattle.bank_slots_spec.proofs.HiddenSlots.{same-number, same-told}
+use Rattle.bank_slots_spec.specs.SlotLists.{Made, made, madeTrace, madeRun, Shown, shownBy, shownAll, fitting, fittingOf, actingMade, actingMadeOf, Ran, none-left, one-more, MadeAlike, both-end, both-more}
+use Rattle.bank_slots_spec.specs.SlotClaims.{SameShown, none-shown, one-shown, SlotsIsolated}
 
 -- ---- what is shown
 
 -- what is promised of a call is what `made` says of the loaded state
-shown : (fits : Bool) (call : Call) (out : List ℕ) (s : State)
+pub as-made : (fits : Bool) (call : Call) (out : List ℕ) (s : State)
     → _≡_ {A = Stepped} (record { answer = answerOf fits s call; state = record { bank = bankAfter fits s call; buffers = buffersAfter fits s call } }) (made s (record { fits = fits; call = call; out = out }))
 unfolding answerOf bankAfter buffersAfter
-shown true call out s = refl
-shown false call out s = refl
+as-made true call out s = refl
+as-made false call out s = refl
 
-one-shown : {xs ys : List ℕ} {b b′ : Buffers} {r : ℕ} (m : Made) → Called (m .fits) (m .call) b xs ys r → b′ ≡ buffersAfter (m .fits) (stateAt xs b) (m .call)
+as-promised : {xs ys : List ℕ} {b b′ : Buffers} {r : ℕ} (m : Made) → Called (m .fits) (m .call) b xs ys r → b′ ≡ buffersAfter (m .fits) (stateAt xs b) (m .call)
     → _≡_ {A = Stepped} (record { answer = answerOf (m .fits) (stateAt xs b) (m .call); state = stateAt ys b′ }) (made (stateAt xs b) m)
-one-shown {xs} {b = b} m c e =
+as-promised {xs} {b = b} m c e =
     (λ j. record { answer = answerOf (m .fits) (stateAt xs b) (m .call); state = record { bank = c .bank j; buffers = e j } })
-    ∙ shown (m .fits) (m .call) (m .out) (stateAt xs b)
+    ∙ as-made (m .fits) (m .call) (m .out) (stateAt xs b)
 
 traced : {xs : List ℕ} {b : Buffers} {ms : List Made} {rs : List Shown} → Ran xs b ms rs → rs ≡ shownAll ms (madeTrace (stateAt xs b) ms)
 traced none-left = refl
-traced (one-more {ys = ys} {b′ = b′} {m = m} {ms = ms} c e o rest) =
-    let h = one-shown m c e in
+traced (one-more {ys = ys} {b′ = b′} {m = m} {ms = ms} c e o n w rest) =
+    let h = as-promised m c e in
     (λ j. record { returned = c .answer j; answer = o j; state = stateAt ys b′ } ∷ traced rest j)
     ∙ ap (λ (t : Stepped). shownBy m t ∷ shownAll ms (madeTrace (t .state) ms)) h
 
@@ -56,7 +58,7 @@ one-left : (s : State) (m : Made) (ms : List Made) (fits : Bool) → ((t : State
 one-left s m ms true h = h (step 4 s (m .call) .state)
 one-left s m ms false h = h s
 
-left : (s : State) (ms : List Made) → madeRun s ms ≡ run 4 s (fitting ms)
+pub left : (s : State) (ms : List Made) → madeRun s ms ≡ run 4 s (fitting ms)
 left s [] = refl
 left s (m ∷ ms) = one-left s m ms (m .fits) (λ t. left t ms)
 
@@ -90,7 +92,7 @@ look-called {fits} {call} {b} xs l e = record { answer = e; bank = sym (kept fit
 
 -- ---- one lane's captures
 
-made-alike : (lane : ℕ) (fits : Bool) (out : List ℕ) {c c′ : Call} → Alike lane c c′ → (s s′ : State) → hideState lane s ≡ hideState lane s′
+pub made-alike : (lane : ℕ) (fits : Bool) (out : List ℕ) {c c′ : Call} → Alike lane c c′ → (s s′ : State) → hideState lane s ≡ hideState lane s′
     → hide lane (made s (record { fits = fits; call = c; out = out })) ≡ hide lane (made s′ (record { fits = fits; call = c′; out = out }))
 made-alike lane true out h s s′ e = step-alike 4 lane h s s′ e
 made-alike lane false out h s s′ e = λ j. record { answer = refused wrongLength; state = e j }
@@ -107,33 +109,25 @@ captures : (lane : ℕ) (xs xs′ : List ℕ) (b : Buffers) {ms ms′ : List Mad
     → map (hide lane) (madeTrace (stateAt xs b) ms) ≡ map (hide lane) (madeTrace (stateAt xs′ b) ms′)
 captures lane xs xs′ b e a = trace-alike lane a (stateAt xs b) (stateAt xs′ b) (ap (λ (k : Bank). hideState lane (record { bank = k; buffers = b })) e)
 
--- what is hidden is no refusal's number
-hidden-number : (lane : ℕ) (a : Answer) → number (hideAnswer lane a) ≡ number a
-hidden-number lane done = refl
-hidden-number lane (refused n) = refl
-hidden-number lane (motor-sent m) = refl
-hidden-number lane (serviced e o) = refl
-hidden-number lane (interrupted e o) = refl
-hidden-number lane (replied r) = refl
-hidden-number lane (flag b) = refl
-hidden-number lane (counts s) = refl
-hidden-number lane (values v) = refl
-hidden-number lane (reply-counts r) = refl
-hidden-number lane (slots l) = refl
+-- ---- what is shown of two such lists
 
--- the numbers that are returned, told by the trace with a lane hidden
-numbers : (lane : ℕ) (s : State) (ms : List Made) → map (λ (r : Shown). r .returned) (shownAll ms (madeTrace s ms)) ≡ map (λ (r : Stepped). number (r .answer)) (map (hide lane) (madeTrace s ms))
-numbers lane s [] = refl
-numbers lane s (m ∷ ms) = λ j. sym (hidden-number lane (made s m .answer)) j ∷ numbers lane (made s m .state) ms j
+shown-alike : (lane : ℕ) {ms ms′ : List Made} → MadeAlike lane ms ms′ → (s s′ : State) → hideState lane s ≡ hideState lane s′
+    → SameShown lane (madeTrace s ms) (shownAll ms (madeTrace s ms)) (shownAll ms′ (madeTrace s′ ms′))
+shown-alike lane both-end s s′ e = none-shown
+shown-alike lane (both-more {fits = fits} {out = out} {c = c} {c′ = c′} {ms = ms} {ms′ = ms′} a rest) s s′ e =
+    let h = made-alike lane fits out a s s′ e in
+    let r = made s (record { fits = fits; call = c; out = out }) in
+    let r′ = made s′ (record { fits = fits; call = c′; out = out }) in
+    let k = ap (λ (t : Stepped). t .answer) h in
+    one-shown (same-number lane (r .answer) (r′ .answer) k) (same-told lane (r .answer) (r′ .answer) k out)
+    (shown-alike lane rest (r .state) (r′ .state) (ap (λ (t : Stepped). t .state) h))
 
-returns : (lane : ℕ) {xs xs′ : List ℕ} {b : Buffers} {ms ms′ : List Made} {rs rs′ : List Shown} → load xs ≡ load xs′ → MadeAlike lane ms ms′
-    → Ran xs b ms rs → Ran xs′ b ms′ rs′ → map (λ (r : Shown). r .returned) rs ≡ map (λ (r : Shown). r .returned) rs′
-returns lane {xs} {xs′} {b} {ms} {ms′} e a p q =
-    ap (map (λ (r : Shown). r .returned)) (traced p)
-    ∙ numbers lane (stateAt xs b) ms
-    ∙ ap (map (λ (r : Stepped). number (r .answer))) (captures lane xs xs′ b e a)
-    ∙ sym (numbers lane (stateAt xs′ b) ms′)
-    ∙ sym (ap (map (λ (r : Shown). r .returned)) (traced q))
+shown : (lane : ℕ) {xs xs′ : List ℕ} {b : Buffers} {ms ms′ : List Made} {rs rs′ : List Shown} → load xs ≡ load xs′ → MadeAlike lane ms ms′
+    → Ran xs b ms rs → Ran xs′ b ms′ rs′ → SameShown lane (madeTrace (stateAt xs b) ms) rs rs′
+shown lane {xs} {xs′} {b} {ms} {ms′} {rs′ = rs′} e a p q =
+    subst (λ (l : List Shown). SameShown lane (madeTrace (stateAt xs b) ms) l rs′) (sym (traced p))
+    (subst (λ (l : List Shown). SameShown lane (madeTrace (stateAt xs b) ms) (shownAll ms (madeTrace (stateAt xs b) ms)) l) (sym (traced q))
+    (shown-alike lane a (stateAt xs b) (stateAt xs′ b) (ap (λ (k : Bank). hideState lane (record { bank = k; buffers = b })) e)))
 
 pub slots-isolated : SlotsIsolated
 slots-isolated = record {
@@ -142,5 +136,5 @@ slots-isolated = record {
   left = left;
   looks = looks;
   captures = captures;
-  returns = returns;
+  shown = shown;
 }

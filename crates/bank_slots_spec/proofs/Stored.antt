@@ -11,7 +11,8 @@ use Rattle.dshot_reply_spec.specs.Answer.{Answer}
 use Rattle.dshot_reply_spec.specs.Value.{Reading}
 use Rattle.dshot_spec.specs.Tabulate.{tabulate}
 use Rattle.dshot_bank_spec.specs.State.{LaneReply, Bank}
-use Rattle.dshot_bank_spec.specs.Commands.{noReplies}
+use Rattle.dshot_spec.specs.Timing.{Timing}
+use Rattle.dshot_bank_spec.specs.Commands.{noReplies, fromLanes}
 use Rattle.bank_slots_spec.specs.Memory.{at, write, over, within, word, long, wordRows, longRows}
 use Rattle.bank_slots_spec.specs.Layout.{slots, LEASE-STARTED, LEASE-OVER, REQUEST, SENT, RUN, BUSY, FAULTED, BIDIRECTIONAL, RECEIVING, WAITING, HELD, IN-SECOND, COMPLETION, STARTED, FRAMES-STARTED, FRAMES-COMPLETED, BUSY-SKIPS, LEASE-EXPIRIES, FRAME-TIMEOUTS, DMA-FAULTS, SPURIOUS, LANE-COMPLETIONS, REPLIES, flag, reply, four, demandAt, telemetryAt, runAt, frameAt, statsAt, coreAt, laneAt, bankAt, load, bit, replyKind, replyNumber, demandRows, telemetryRows, runRows, frameRows, statsRows, coreRows, laneRows, repliesRows, bankRows, store}
 use Rattle.bank_slots_spec.specs.Written.{isReply, FlagsWritten, MarksWritten, RequestsWritten, ReplyWritten, RepliesWritten, WrittenAt, Written, Below, ReplyFits, Fits}
@@ -97,6 +98,31 @@ load-store b h = ap bankAt (at-store b) ∙ λ j. record {
   };
   replies = lanes-back (b .replies) (h .lanes) (h .replies) j;
 }
+
+-- ---- a new bank fits
+
+pub new-fits : (timing : Timing) → Fits (fromLanes 4 timing)
+unfolding fromLanes
+new-fits timing = record {
+  values = refl;
+  leaseStarted = omega arith;
+  leaseDuration = tt;
+  request = tt;
+  sent = tt;
+  run = tt;
+  started = omega arith;
+  marks = refl;
+  completions = refl;
+  lanes = refl;
+  replies = lane;
+}
+  where
+    lane : (i : ℕ) → ReplyFits (getD (replicate 4 noReplies) i noReplies .reply)
+    lane zero = (omega arith, omega arith)
+    lane (suc zero) = (omega arith, omega arith)
+    lane (suc (suc zero)) = (omega arith, omega arith)
+    lane (suc (suc (suc zero))) = (omega arith, omega arith)
+    lane (suc (suc (suc (suc i)))) = (omega arith, omega arith)
 
 -- ---- what is written is what the library writes
 

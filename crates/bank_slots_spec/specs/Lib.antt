@@ -7,3 +7,4 @@ pub mod Parts
 pub mod Outs
 pub mod Handles
 pub mod SlotLists
+pub mod SlotClaims

@@ -1,15 +1,16 @@
--- Lists of exported calls of a bank on one state slice and two lent buffers, and what demand 3 claims of them. "Alike" is document 01's term.
+-- Lists of exported calls of a bank on one state slice and two lent buffers. "Alike" is document 01's term.
 -- Assumes nothing.
 use Prim.Native.Nat.{ℕ}
 use mathlib.Core.Path.{_≡_}
 use mathlib.Core.Bool.{Bool}
-use mathlib.Core.List.{List, [], _∷_, map}
+use mathlib.Core.List.{List, [], _∷_}
+use lib.ListN.{length}
 use Rattle.dshot_reply_spec.specs.Answer.{pick, wrongLength}
 use Rattle.dshot_bank_spec.specs.Lanes.{if_then_else_}
 use Rattle.dshot_bank_spec.specs.State.{Buffers}
 use Rattle.dshot_bank_spec.specs.Calls.{Call, Answer, refused, State, Stepped, told, step}
-use Rattle.dshot_bank_spec.specs.Lists.{Alike, hide, isLook, run, trace}
-use Rattle.bank_slots_spec.specs.Layout.{load}
+use Rattle.dshot_bank_spec.specs.Lists.{Alike, isLook}
+use Rattle.bank_slots_spec.specs.Written.{Below}
 use Rattle.bank_slots_spec.specs.Called.{Called, number, stateAt, answerOf, buffersAfter}
 use Rattle.bank_slots_spec.specs.Outs.{outAfter}
 
@@ -48,15 +49,23 @@ shownAll [] rs = []
 shownAll (m ∷ ms) [] = []
 shownAll (m ∷ ms) (r ∷ rs) = shownBy m r ∷ shownAll ms rs
 
--- a list of exported calls as it went: each as it is promised, on the slots and buffers that the one before left, with what it showed
+-- a list of exported calls as it went: each as it is promised, on the slots and buffers that the one before left, with what it showed. A slice keeps
+-- its length, and its slots their sixteen bits
 pub data Ran : List ℕ → Buffers → List Made → List Shown → Type 0 where
   none-left : {xs : List ℕ} {b : Buffers} → Ran xs b [] []
   one-more : {xs ys out : List ℕ} {b b′ : Buffers} {m : Made} {ms : List Made} {r : ℕ} {rest : List Shown}
       → Called (m .fits) (m .call) b xs ys r
       → b′ ≡ buffersAfter (m .fits) (stateAt xs b) (m .call)
       → out ≡ outAfter (answerOf (m .fits) (stateAt xs b) (m .call)) (m .out)
+      → length ys ≡ length xs
+      → Below ys
       → Ran ys b′ ms rest
       → Ran xs b (m ∷ ms) (record { returned = r; answer = out; state = stateAt ys b′ } ∷ rest)
+
+-- the slots that each call left
+abbrev pub leaves : {xs : List ℕ} {b : Buffers} {ms : List Made} {rs : List Shown} → Ran xs b ms rs → List (List ℕ)
+leaves none-left = []
+leaves (one-more {ys = ys} c e o n w rest) = ys ∷ leaves rest
 
 -- ---- parts of a list
 
@@ -85,20 +94,3 @@ pub data MadeAlike (lane : ℕ) : List Made → List Made → Type 0 where
   both-end : MadeAlike lane [] []
   both-more : {fits : Bool} {out : List ℕ} {c c′ : Call} {ms ms′ : List Made} → Alike lane c c′ → MadeAlike lane ms ms′
       → MadeAlike lane (record { fits = fits; call = c; out = out } ∷ ms) (record { fits = fits; call = c′; out = out } ∷ ms′)
-
--- ---- what carries over to exported calls on one state slice, whatever it held at the start
-
-pub record SlotsIsolated : Type 0 where
-  -- each call returns, puts into the slots of its answer and leaves what the bank's own call answers and leaves
-  pub traced : {xs : List ℕ} {b : Buffers} {ms : List Made} {rs : List Shown} → Ran xs b ms rs → rs ≡ shownAll ms (madeTrace (stateAt xs b) ms)
-  -- those whose slices fit are a list of the bank's calls, so that all claims about such lists hold of them; the others are refused and change nothing
-  pub fitted : (s : State) (ms : List Made) → fittingOf ms (madeTrace s ms) ≡ trace 4 s (fitting ms)
-  pub left : (s : State) (ms : List Made) → madeRun s ms ≡ run 4 s (fitting ms)
-  -- calls that only look change nothing, wherever they stand
-  pub looks : (s : State) (ms : List Made) → madeTrace s (actingMade ms) ≡ actingMadeOf ms (madeTrace s ms)
-  -- two lists alike but in one lane's captures, from slots that hold the same bank: after each call the same answer, bank and buffers, with that
-  -- lane's reply and reply counts hidden, and the same number returned
-  pub captures : (lane : ℕ) (xs xs′ : List ℕ) (b : Buffers) {ms ms′ : List Made} → load xs ≡ load xs′ → MadeAlike lane ms ms′
-      → map (hide lane) (madeTrace (stateAt xs b) ms) ≡ map (hide lane) (madeTrace (stateAt xs′ b) ms′)
-  pub returns : (lane : ℕ) {xs xs′ : List ℕ} {b : Buffers} {ms ms′ : List Made} {rs rs′ : List Shown} → load xs ≡ load xs′ → MadeAlike lane ms ms′
-      → Ran xs b ms rs → Ran xs′ b ms′ rs′ → map (λ (r : Shown). r .returned) rs ≡ map (λ (r : Shown). r .returned) rs′
