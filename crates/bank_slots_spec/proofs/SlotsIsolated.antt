@@ -6,11 +6,13 @@ use mathlib.Core.Bool.{Bool, true, false}
 use mathlib.Core.List.{List, [], _∷_, map}
 use Prim.Native.Nat.{ℕ}
 use Rattle.dshot_reply_spec.specs.Answer.{pick, wrongLength}
-use Rattle.dshot_bank_spec.specs.State.{Bank, Buffers}
-use Rattle.dshot_bank_spec.specs.Calls.{Call, Answer, done, refused, motor-sent, serviced, interrupted, replied, flag, counts, values, reply-counts, slots, State, Stepped, told, step}
+use Rattle.dshot_reply_spec.specs.Answer as Reply
+use Rattle.dshot_bank_spec.specs.State.{Core, Bank, Buffers}
+use Rattle.dshot_bank_spec.specs.Commands.{enableBidirectional, commandThrottles, commandSpecial, requestTelemetry}
+use Rattle.dshot_bank_spec.specs.Calls.{Call, enable-bidirectional, command-stop, command-throttles, command-special, request-telemetry, cancel-telemetry-request, take-telemetry-request-sent, service-call, on-dma-interrupt, take-replies, is-bidirectional, is-faulted, stats, requested-values, command-pending, reply-stats, sending, lend, refused, State, Stepped, told, commanded, act, step}
 use Rattle.dshot_bank_spec.specs.Lists.{Alike, hide, hideAnswer, hideState, isLook, run, trace}
 use Rattle.dshot_bank_spec.proofs.Isolation.{step-alike}
-use Rattle.dshot_bank_spec.proofs.Refusals.{looks-keep}
+use Rattle.dshot_bank_spec.proofs.Refusals.{either-step, looks-keep}
 use Rattle.bank_slots_spec.specs.Layout.{load}
 use Rattle.bank_slots_spec.specs.Called.{Called, number, stateAt, answerOf, bankAfter, buffersAfter}
 use Rattle.bank_slots_spec.specs.Outs.{outAfter}
@@ -89,6 +91,59 @@ look-called {fits} {call} {b} xs l e = record { answer = e; bank = sym (kept fit
     kept : (f : Bool) → bankAfter f (stateAt xs b) call ≡ load xs
     kept true = ap (λ (s : State). s .bank) (looks-keep 4 (stateAt xs b) call l)
     kept false = refl
+
+-- ---- the buffers
+
+-- whether a call works on the two buffers of sequences
+abbrev fills : Call → Bool
+fills (enable-bidirectional receives) = false
+fills command-stop = false
+fills (command-throttles commands now lease) = false
+fills (command-special motor sequence) = false
+fills (request-telemetry motor) = false
+fills cancel-telemetry-request = false
+fills take-telemetry-request-sent = false
+fills (service-call now taken present masks samples) = true
+fills (on-dma-interrupt motor complete error turned back) = false
+fills take-replies = false
+fills is-bidirectional = false
+fills is-faulted = false
+fills stats = false
+fills requested-values = false
+fills command-pending = false
+fills reply-stats = false
+fills (sending motor) = false
+fills (lend buffers) = true
+
+commanded-keeps : (s : State) (a : Reply.Answer Core) → commanded s a .state .buffers ≡ s .buffers
+commanded-keeps s (Reply.given c) = refl
+commanded-keeps s (Reply.refused k) = refl
+
+act-keeps : (s : State) (c : Call) → fills c ≡ false → act 4 s c .state .buffers ≡ s .buffers
+act-keeps s (enable-bidirectional receives) e = commanded-keeps s (enableBidirectional receives (s .bank .core))
+act-keeps s command-stop e = refl
+act-keeps s (command-throttles commands now lease) e = commanded-keeps s (commandThrottles 4 commands now lease (s .bank .core))
+act-keeps s (command-special motor sequence) e = commanded-keeps s (commandSpecial motor sequence (s .bank .core))
+act-keeps s (request-telemetry motor) e = commanded-keeps s (requestTelemetry motor (s .bank .core))
+act-keeps s cancel-telemetry-request e = refl
+act-keeps s take-telemetry-request-sent e = refl
+act-keeps s (service-call now taken present masks samples) e = cc
+act-keeps s (on-dma-interrupt motor complete error turned back) e = refl
+act-keeps s take-replies e = refl
+act-keeps s is-bidirectional e = refl
+act-keeps s is-faulted e = refl
+act-keeps s stats e = refl
+act-keeps s requested-values e = refl
+act-keeps s command-pending e = refl
+act-keeps s reply-stats e = refl
+act-keeps s (sending motor) e = refl
+act-keeps s (lend buffers) e = cc
+
+-- so the promise of a call that is lent none of them, which speaks of the state alone, is one call of a list
+pub buffers-kept : (fits : Bool) (s : State) (call : Call) → fills call ≡ false → s .buffers ≡ buffersAfter fits s call
+unfolding buffersAfter
+buffers-kept true s call e = sym (either-step 4 s call (λ (r : Stepped). r .state .buffers ≡ s .buffers) (act-keeps s call e) refl)
+buffers-kept false s call e = refl
 
 -- ---- one lane's captures
 

@@ -48,7 +48,7 @@ act-keeps n s (sending motor) = λ e. refl
 act-keeps n s (lend buffers) = λ e. cc
 
 -- what holds of what the source does, and of a refusal that leaves all as it was, holds of a call
-either-step : (n : ℕ) (s : State) (c : Call) (P : Stepped → Type 0)
+pub either-step : (n : ℕ) (s : State) (c : Call) (P : Stepped → Type 0)
     → P (act n s c) → P (record { answer = refused (portRefusal n s c); state = s }) → P (step n s c)
 unfolding step
 either-step n s c P h k = either P (eqb (portRefusal n s c) 0) h k
