@@ -279,7 +279,8 @@ uint32_t kuzhenga_bank_command_throttles(uint16_t *bank, size_t bank_len, const 
                                          size_t throttles_len /* 4 */, uint64_t now_ms, uint32_t lease_ms);
 
 /* Queues a command run for one motor: 13, 12, 18, 19, 20. A run whose index is above 1 is spent; of how often
- * its command is still to be sent the low byte counts, 0 for 256. */
+ * its command is still to be sent the low byte counts, 0 for 256. Its commands are sent as they are given: 1 to
+ * 47 are commands to an ESC, and a larger number is a throttle, which no lease ends. */
 uint32_t kuzhenga_bank_command_special(uint16_t *bank, size_t bank_len, size_t motor, const uint16_t *run,
                                        size_t run_len /* 4 */);
 
