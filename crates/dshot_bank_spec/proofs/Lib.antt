@@ -6,4 +6,5 @@ pub mod Storing
 pub mod Decoding
 pub mod Written
 pub mod SentReads
+pub mod LeaseEnds
 pub mod Hidden

@@ -13,3 +13,4 @@ pub mod Calls
 pub mod Lists
 pub mod Claims
 pub mod SentClaim
+pub mod LeaseClaim
