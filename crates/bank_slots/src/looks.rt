@@ -39,12 +39,13 @@ ghost use mathlib.Core.Path.{_≡_};
 ghost use mathlib.Core.List.{[], _∷_};
 ghost use Prim.Native.Nat.{_+_, _<_};
 ghost use lib.ListN.{length};
+ghost use Rattle.dshot_reply_spec.specs.Answer.{pick};
 ghost use Rattle.dshot_reply.specs.Answers.{replyAnswer};
 ghost use Rattle.dshot_bank_spec.specs.State.{Buffers};
 ghost use Rattle.dshot_bank_spec.specs.Calls as Call;
 ghost use Rattle.dshot_bank_spec.specs.Calls.{slotsFit};
 ghost use Rattle.bank_slots_spec.specs.Memory.{at, word, write, wordRows};
-ghost use Rattle.bank_slots_spec.specs.Layout.{reply};
+ghost use Rattle.bank_slots_spec.specs.Layout.{slots, reply};
 ghost use Rattle.bank_slots_spec.specs.Layout as Layout;
 ghost use Rattle.bank_slots_spec.specs.Called.{Called, fit, long, stateAt, answerOf, number};
 ghost use Rattle.bank_slots_spec.specs.Outs.{replySlots, outAfter};
@@ -52,40 +53,34 @@ ghost use Rattle.bank_slots_spec.specs.Parts.{slotRows};
 
 // ---- flags and values
 
-// One slot, 0 or 1.
-fn put_flag(set: bool, out: &mut [u16])
-    requires { ⌜ length (now out) ≡ 1 ⌝ }
-    ensures { λ r. ⌜ now (out .exit) ≡ Layout.bit set ∷ [] ⌝ }
+// The flag in a slot of the bank, told in one slot: 0 or 1.
+fn look_flag(bank: &[u16], k: usize, out: &mut [u16]) -> u32
+    requires { ⌜ k < slots ⌝ }
+    ensures { λ r. ⌜ r ≡ pick (fit (now (bank .entry)) (long 1 (now (out .entry)))) 0 13 ⌝ }
+    ensures { λ r. ⌜ now (out .exit) ≡ pick (fit (now (bank .entry)) (long 1 (now (out .entry)))) (Layout.bit (Layout.flag (at (now (bank .entry)) k)) ∷ []) (now (out .entry)) ⌝ }
 {
-    out[0] = bit(set);
+    if bank.len() != SLOTS {
+        return 13;
+    }
+    if out.len() != 1 {
+        return 13;
+    }
+    out[0] = bit(flag(bank[k]));
+    0
 }
 
 pub fn is_bidirectional(bank: &[u16], out: &mut [u16]) -> u32
     ensures { λ r. ⌜ ((b : Buffers) → r ≡ number (answerOf (fit (now (bank .entry)) (long 1 (now (out .entry)))) (stateAt (now (bank .entry)) b) Call.is-bidirectional)) ⌝ }
     ensures { λ r. ⌜ ((b : Buffers) → now (out .exit) ≡ outAfter (answerOf (fit (now (bank .entry)) (long 1 (now (out .entry)))) (stateAt (now (bank .entry)) b) Call.is-bidirectional) (now (out .entry))) ⌝ }
 {
-    if bank.len() != SLOTS {
-        return 13;
-    }
-    if out.len() != 1 {
-        return 13;
-    }
-    put_flag(flag(bank[BIDIRECTIONAL]), out);
-    0
+    look_flag(bank, BIDIRECTIONAL, out)
 }
 
 pub fn is_faulted(bank: &[u16], out: &mut [u16]) -> u32
     ensures { λ r. ⌜ ((b : Buffers) → r ≡ number (answerOf (fit (now (bank .entry)) (long 1 (now (out .entry)))) (stateAt (now (bank .entry)) b) Call.is-faulted)) ⌝ }
     ensures { λ r. ⌜ ((b : Buffers) → now (out .exit) ≡ outAfter (answerOf (fit (now (bank .entry)) (long 1 (now (out .entry)))) (stateAt (now (bank .entry)) b) Call.is-faulted) (now (out .entry))) ⌝ }
 {
-    if bank.len() != SLOTS {
-        return 13;
-    }
-    if out.len() != 1 {
-        return 13;
-    }
-    put_flag(flag(bank[FAULTED]), out);
-    0
+    look_flag(bank, FAULTED, out)
 }
 
 // Whether a special-command run is still being sent.
@@ -93,14 +88,7 @@ pub fn command_pending(bank: &[u16], out: &mut [u16]) -> u32
     ensures { λ r. ⌜ ((b : Buffers) → r ≡ number (answerOf (fit (now (bank .entry)) (long 1 (now (out .entry)))) (stateAt (now (bank .entry)) b) Call.command-pending)) ⌝ }
     ensures { λ r. ⌜ ((b : Buffers) → now (out .exit) ≡ outAfter (answerOf (fit (now (bank .entry)) (long 1 (now (out .entry)))) (stateAt (now (bank .entry)) b) Call.command-pending) (now (out .entry))) ⌝ }
 {
-    if bank.len() != SLOTS {
-        return 13;
-    }
-    if out.len() != 1 {
-        return 13;
-    }
-    put_flag(flag(bank[RUN]), out);
-    0
+    look_flag(bank, RUN, out)
 }
 
 pub fn requested_values(bank: &[u16], out: &mut [u16]) -> u32

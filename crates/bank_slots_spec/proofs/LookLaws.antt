@@ -91,20 +91,32 @@ run-there : {A : Type 0} (none-there : Bool) (run : A) → isSome (pick none-the
 run-there true run = refl
 run-there false run = refl
 
+module _ (xs out : List ℕ) where
+  -- the flag in slot k is told, where both slices fit
+  abbrev Told : ℕ → List ℕ → ℕ → Type 0
+  Told k after r = (r ≡ pick (fit xs (long 1 out)) 0 13) × (after ≡ pick (fit xs (long 1 out)) (bit (flag (at xs k)) ∷ []) out)
+
+  flag-told : {after : List ℕ} {r : ℕ} (k : ℕ) (call : Call) → ((b : Buffers) → step 4 (stateAt xs b) call .answer ≡ Call.flag (flag (at xs k))) → Told k after r → Looks call 1 xs out after r
+  unfolding answerOf outAfter
+  flag-told k call e h = any-buffers call 1 xs out (λ b. (h .0 ∙ by (fit xs (long 1 out)) b .0, h .1 ∙ by (fit xs (long 1 out)) b .1))
+    where
+      by : (t : Bool) (b : Buffers) → (pick t 0 13 ≡ number (answerOf t (stateAt xs b) call)) × (pick t (bit (flag (at xs k)) ∷ []) out ≡ outAfter (answerOf t (stateAt xs b) call) out)
+      by true b = (sym (ap number (e b)), sym (ap (λ (a : Answer). outAfter a out) (e b)))
+      by false b = (refl, refl)
+
+  pub bidirectional-told : {after : List ℕ} {r : ℕ} → Told BIDIRECTIONAL after r → Looks is-bidirectional 1 xs out after r
+  unfolding step portRefusal load
+  bidirectional-told = flag-told BIDIRECTIONAL is-bidirectional (λ b. refl)
+
+  pub faulted-told : {after : List ℕ} {r : ℕ} → Told FAULTED after r → Looks is-faulted 1 xs out after r
+  unfolding step portRefusal load
+  faulted-told = flag-told FAULTED is-faulted (λ b. refl)
+
+  pub pending-told : {after : List ℕ} {r : ℕ} → Told RUN after r → Looks command-pending 1 xs out after r
+  unfolding step portRefusal load
+  pending-told = flag-told RUN command-pending (λ b. ap Call.flag (run-there (eqb (at xs RUN) 0) _))
+
 module _ (xs out : List ℕ) (n : length xs ≡ Layout.slots) where
-  module _ (l : length out ≡ 1) {set : Bool} {after : List ℕ} (h : after ≡ bit set ∷ []) where
-    pub bidirectional-told : set ≡ flag (at xs BIDIRECTIONAL) → Looks is-bidirectional 1 xs out after 0
-    unfolding step portRefusal load
-    bidirectional-told e = look-told is-bidirectional 1 xs out n l (Call.flag set) (λ b. ap Call.flag (sym e)) refl h
-
-    pub faulted-told : set ≡ flag (at xs FAULTED) → Looks is-faulted 1 xs out after 0
-    unfolding step portRefusal load
-    faulted-told e = look-told is-faulted 1 xs out n l (Call.flag set) (λ b. ap Call.flag (sym e)) refl h
-
-    pub pending-told : set ≡ flag (at xs RUN) → Looks command-pending 1 xs out after 0
-    unfolding step portRefusal load
-    pending-told e = look-told command-pending 1 xs out n l (Call.flag set) (λ b. ap Call.flag (run-there (eqb (at xs RUN) 0) _ ∙ sym e)) refl h
-
   pub values-told : length out ≡ 4 → Looks requested-values 4 xs out (write (slotRows 0 (four (λ (i : ℕ). at xs (VALUES + i)))) out) 0
   unfolding step portRefusal load
   values-told l = let v = four (λ (i : ℕ). at xs (VALUES + i)) in look-told requested-values 4 xs out n l (values v) (λ b. refl) refl (filled v out l)
