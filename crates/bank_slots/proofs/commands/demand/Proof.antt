@@ -9,73 +9,52 @@ use Rattle.bank_slots_spec.proofs.CommandMoves.{joinedOf, values-joined, demand
 use borrow.Author.Needs.{needs}
 use Rattle.bank_slots.proofs.commands.demand.Statement.{statement}
 use Rattle.bank_slots.proofs.commands.demand.Tie as tie
-use Rattle.bank_slots.proofs.commands.demand.Reads as reads
-use Rattle.bank_slots.proofs.commands.demand.Lts as lts
-use Rattle.bank_slots.proofs.memory.joined_long.Reads as joined-long-reads
-use Rattle.bank_slots.proofs.memory.put_long.Reads as put-long-reads
-use Rattle.dshot.proofs.throttles_to_dshot.Reads as throttles-to-dshot-reads
 
--- src/commands.rt:123:45
 shared-slice-read-joined-long : tie.Need-shared-slice-read-joined-long
 shared-slice-read-joined-long c = search needs
 
--- src/commands.rt:123:58
 shared-slice-read-joined-long-2 : tie.Need-shared-slice-read-joined-long-2
 shared-slice-read-joined-long-2 c = search needs
 
--- src/commands.rt:123:71
 shared-slice-read-joined-long-3 : tie.Need-shared-slice-read-joined-long-3
 shared-slice-read-joined-long-3 c = search needs
 
--- src/commands.rt:123:84
 shared-slice-read-joined-long-4 : tie.Need-shared-slice-read-joined-long-4
 shared-slice-read-joined-long-4 c = search needs
 
--- src/commands.rt:123:18
 throttles-to-dshot-requires : tie.Need-throttles-to-dshot-requires
 throttles-to-dshot-requires c κs = search needs
 
--- src/commands.rt:128:21
 array-read-joined-long : tie.Need-array-read-joined-long
 array-read-joined-long c = search needs
 
--- src/commands.rt:128:32
 array-read-joined-long-2 : tie.Need-array-read-joined-long-2
 array-read-joined-long-2 c = search needs
 
--- src/commands.rt:128:43
 array-read-joined-long-3 : tie.Need-array-read-joined-long-3
 array-read-joined-long-3 c = search needs
 
--- src/commands.rt:128:54
 array-read-joined-long-4 : tie.Need-array-read-joined-long-4
 array-read-joined-long-4 c = search needs
 
--- src/commands.rt:128:9
 joined-long-requires : tie.Need-joined-long-requires
 joined-long-requires c κs = search needs
 
--- src/commands.rt:125:5
 put-long-requires : tie.Need-put-long-requires
 put-long-requires c κs = search needs
 
--- src/commands.rt:130:5
 put-long-requires-2 : tie.Need-put-long-requires-2
 put-long-requires-2 c κs = search needs
 
--- src/commands.rt:131:32
 add-put-long : tie.Need-add-put-long
 add-put-long c = search needs
 
--- src/commands.rt:131:5
 put-long-requires-3 : tie.Need-put-long-requires-3
 put-long-requires-3 c κs = search needs
 
--- src/commands.rt:119:1
 same-length : tie.Need-same-length
 same-length c = search needs
 
--- src/commands.rt:119:1
 returns : tie.Need-returns
 returns c =
     let v = c .before .before .before .before .before .before .before .before .before .before in

@@ -4,57 +4,36 @@ use Rattle.bank_slots_spec.proofs.InterruptMoves.{after-some, after-opened, aft
 use borrow.Author.Needs.{needs}
 use Rattle.bank_slots.proofs.interrupt.after_lane.Statement.{statement}
 use Rattle.bank_slots.proofs.interrupt.after_lane.Tie as tie
-use Rattle.bank_slots.proofs.interrupt.after_lane.Reads as reads
-use Rattle.bank_slots.proofs.interrupt.after_lane.Lts as lts
-use Rattle.bank_slots.proofs.interrupt.frame_done.Reads as frame-done-reads
-use Rattle.bank_slots.proofs.interrupt.latched_turning.Reads as latched-turning-reads
-use Rattle.bank_slots.proofs.interrupt.opens_window.Reads as opens-window-reads
-use Rattle.bank_slots.proofs.interrupt.tell_order.Reads as tell-order-reads
-use Rattle.bank_slots.proofs.interrupt.tell_paused.Reads as tell-paused-reads
-use Rattle.bank_slots.proofs.interrupt.window_closed.Reads as window-closed-reads
-use Rattle.bank_slots.proofs.interrupt.window_opened.Reads as window-opened-reads
-use Rattle.bank_slots.proofs.memory.flag.Reads as flag-reads
-use Rattle.bank_slots.proofs.memory.word_at.Reads as word-at-reads
 
--- src/interrupt.rt:205:8
 word-at-requires : tie.Need-word-at-requires
 word-at-requires c κs = search needs
 
--- src/interrupt.rt:206:9
 tell-paused-requires : tie.Need-tell-paused-requires
 tell-paused-requires c κs = search needs
 
--- src/interrupt.rt:207:9
 same-length : tie.Need-same-length
 same-length c = search needs
 
--- src/interrupt.rt:207:9
 same-length-2 : tie.Need-same-length-2
 same-length-2 c = search needs
 
--- src/interrupt.rt:207:9
 returns : tie.Need-returns
 returns c =
     let a = c .before .before .before .before .before .before .before .before .before .args in
     after-some (a .lane) (a .turned) (a .turned-back) (λ e. c .before .before .before .before .if1 .taken (c .before .before .before .before .before .word-at .ensures ∙ e)) (c .before .before .tell-paused .ensures)
 
--- src/interrupt.rt:209:8
 opens-window-requires : tie.Need-opens-window-requires
 opens-window-requires c κs = search needs
 
--- src/interrupt.rt:211:13
 latched-turning-requires : tie.Need-latched-turning-requires
 latched-turning-requires c κs = search needs
 
--- src/interrupt.rt:212:13
 same-length-3 : tie.Need-same-length-3
 same-length-3 c = search needs
 
--- src/interrupt.rt:212:13
 same-length-4 : tie.Need-same-length-4
 same-length-4 c = search needs
 
--- src/interrupt.rt:212:13
 returns-2 : tie.Need-returns-2
 returns-2 c =
     let a = c .before .before .before .before .before .before .before .before .before .before .before .before .before .before .before .before .args in
@@ -62,23 +41,18 @@ returns-2 c =
     let opens = sym (c .before .before .before .before .before .before .before .before .before .opens-window .ensures) ∙ c .before .before .before .before .before .before .before .before .if2 .taken in
     after-not-opened (a .lane) (a .turned) (a .turned-back) all opens (c .before .before .before .before .before .before .before .if3 .taken) (c .before .before .before .before .latched-turning .ensures .0 refl)
 
--- src/interrupt.rt:214:9
 window-opened-requires : tie.Need-window-opened-requires
 window-opened-requires c κs = search needs
 
--- src/interrupt.rt:215:9
 tell-order-requires : tie.Need-tell-order-requires
 tell-order-requires c κs = search needs
 
--- src/interrupt.rt:216:9
 same-length-5 : tie.Need-same-length-5
 same-length-5 c = search needs
 
--- src/interrupt.rt:216:9
 same-length-6 : tie.Need-same-length-6
 same-length-6 c = search needs
 
--- src/interrupt.rt:216:9
 returns-3 : tie.Need-returns-3
 returns-3 c =
     let a = c .before .before .before .before .before .before .before .before .before .before .before .before .before .before .before .before .before .args in
@@ -86,27 +60,21 @@ returns-3 c =
     let opens = sym (c .before .before .before .before .before .before .before .before .before .before .opens-window .ensures) ∙ c .before .before .before .before .before .before .before .before .before .if2 .taken in
     after-opened (a .lane) (a .turned) (a .turned-back) all opens (c .before .before .before .before .before .before .before .before .if3 .left) (c .before .before .before .before .before .before .window-opened .ensures) (c .before .before .tell-order .ensures)
 
--- src/interrupt.rt:218:13
 slice-read-flag : tie.Need-slice-read-flag
 slice-read-flag c = search needs
 
--- src/interrupt.rt:218:8
 flag-requires : tie.Need-flag-requires
 flag-requires c κs = search needs
 
--- src/interrupt.rt:220:13
 latched-turning-requires-2 : tie.Need-latched-turning-requires-2
 latched-turning-requires-2 c κs = search needs
 
--- src/interrupt.rt:221:13
 same-length-7 : tie.Need-same-length-7
 same-length-7 c = search needs
 
--- src/interrupt.rt:221:13
 same-length-8 : tie.Need-same-length-8
 same-length-8 c = search needs
 
--- src/interrupt.rt:221:13
 returns-4 : tie.Need-returns-4
 returns-4 c =
     let a = c .before .before .before .before .before .before .before .before .before .before .before .before .before .before .before .before .before .before .before .args in
@@ -115,23 +83,18 @@ returns-4 c =
     let receiving = sym (c .before .before .before .before .before .before .before .before .before .flag .ensures) ∙ c .before .before .before .before .before .before .before .before .if4 .taken in
     after-not-closed (a .lane) (a .turned) (a .turned-back) all opens receiving (c .before .before .before .before .before .before .before .if5 .taken) (c .before .before .before .before .latched-turning2 .ensures .1 refl)
 
--- src/interrupt.rt:223:9
 window-closed-requires : tie.Need-window-closed-requires
 window-closed-requires c κs = search needs
 
--- src/interrupt.rt:224:9
 tell-order-requires-2 : tie.Need-tell-order-requires-2
 tell-order-requires-2 c κs = search needs
 
--- src/interrupt.rt:225:9
 same-length-9 : tie.Need-same-length-9
 same-length-9 c = search needs
 
--- src/interrupt.rt:225:9
 same-length-10 : tie.Need-same-length-10
 same-length-10 c = search needs
 
--- src/interrupt.rt:225:9
 returns-5 : tie.Need-returns-5
 returns-5 c =
     let a = c .before .before .before .before .before .before .before .before .before .before .before .before .before .before .before .before .before .before .before .before .args in
@@ -140,23 +103,18 @@ returns-5 c =
     let receiving = sym (c .before .before .before .before .before .before .before .before .before .before .flag .ensures) ∙ c .before .before .before .before .before .before .before .before .before .if4 .taken in
     after-closed (a .lane) (a .turned) (a .turned-back) all opens receiving (c .before .before .before .before .before .before .before .before .if5 .left) (c .before .before .before .before .before .before .window-closed .ensures) (c .before .before .tell-order2 .ensures)
 
--- src/interrupt.rt:227:5
 frame-done-requires : tie.Need-frame-done-requires
 frame-done-requires c κs = search needs
 
--- src/interrupt.rt:228:5
 tell-order-requires-3 : tie.Need-tell-order-requires-3
 tell-order-requires-3 c κs = search needs
 
--- src/interrupt.rt:201:1
 same-length-11 : tie.Need-same-length-11
 same-length-11 c = search needs
 
--- src/interrupt.rt:201:1
 same-length-12 : tie.Need-same-length-12
 same-length-12 c = search needs
 
--- src/interrupt.rt:201:1
 returns-6 : tie.Need-returns-6
 returns-6 c =
     let a = c .before .before .before .before .before .before .before .before .before .before .before .before .before .before .before .before .before .before .before .args in

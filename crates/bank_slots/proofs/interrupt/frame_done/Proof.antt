@@ -6,23 +6,16 @@ use Rattle.bank_slots_spec.proofs.InterruptMoves.{frame-done}
 use borrow.Author.Needs.{needs}
 use Rattle.bank_slots.proofs.interrupt.frame_done.Statement.{statement}
 use Rattle.bank_slots.proofs.interrupt.frame_done.Tie as tie
-use Rattle.bank_slots.proofs.interrupt.frame_done.Reads as reads
-use Rattle.bank_slots.proofs.interrupt.frame_done.Lts as lts
-use Rattle.bank_slots.proofs.memory.bump.Reads as bump-reads
 
--- src/interrupt.rt:86:5
 slice-write-state : tie.Need-slice-write-state
 slice-write-state c = search needs
 
--- src/interrupt.rt:87:5
 bump-requires : tie.Need-bump-requires
 bump-requires c κs = search needs
 
--- src/interrupt.rt:82:1
 same-length : tie.Need-same-length
 same-length c = ap length (c .before .before .bump .ensures) ∙ simp length-set
 
--- src/interrupt.rt:82:1
 returns : tie.Need-returns
 returns c =
     let a = c .before .before .before .before .before in

@@ -8,59 +8,39 @@ use Rattle.bank_slots_spec.proofs.InterruptMoves.{on-faulted, on-idle, on-again
 use borrow.Author.Needs.{needs}
 use Rattle.bank_slots.proofs.interrupt.handle.Statement.{statement}
 use Rattle.bank_slots.proofs.interrupt.handle.Tie as tie
-use Rattle.bank_slots.proofs.interrupt.handle.Reads as reads
-use Rattle.bank_slots.proofs.interrupt.handle.Lts as lts
-use Rattle.bank_slots.proofs.interrupt.after_lane.Reads as after-lane-reads
-use Rattle.bank_slots.proofs.interrupt.completion_bit.Reads as completion-bit-reads
-use Rattle.bank_slots.proofs.interrupt.lane_done.Reads as lane-done-reads
-use Rattle.bank_slots.proofs.interrupt.latched.Reads as latched-reads
-use Rattle.bank_slots.proofs.interrupt.tell_paused.Reads as tell-paused-reads
-use Rattle.bank_slots.proofs.memory.flag.Reads as flag-reads
-use Rattle.bank_slots.proofs.memory.word_at.Reads as word-at-reads
 
--- src/interrupt.rt:243:13
 slice-read-flag : tie.Need-slice-read-flag
 slice-read-flag c = search needs
 
--- src/interrupt.rt:243:8
 flag-requires : tie.Need-flag-requires
 flag-requires c κs = search needs
 
--- src/interrupt.rt:244:9
 tell-paused-requires : tie.Need-tell-paused-requires
 tell-paused-requires c κs = search needs
 
--- src/interrupt.rt:245:9
 same-length : tie.Need-same-length
 same-length c = search needs
 
--- src/interrupt.rt:245:9
 returns : tie.Need-returns
 returns c =
     let a = c .before .before .before .before .before .before .before .before .before .args in
     on-faulted (a .lane) (a .transfer-complete) (a .dma-error) (a .turned) (a .turned-back) (sym (c .before .before .before .before .before .flag .ensures) ∙ c .before .before .before .before .if1 .taken) (c .before .before .tell-paused .ensures)
 
--- src/interrupt.rt:247:14
 slice-read-flag-2 : tie.Need-slice-read-flag-2
 slice-read-flag-2 c = search needs
 
--- src/interrupt.rt:247:9
 flag-requires-2 : tie.Need-flag-requires-2
 flag-requires-2 c κs = search needs
 
--- src/interrupt.rt:248:9
 latched-requires : tie.Need-latched-requires
 latched-requires c κs = search needs
 
--- src/interrupt.rt:249:9
 same-length-2 : tie.Need-same-length-2
 same-length-2 c = search needs
 
--- src/interrupt.rt:249:9
 same-length-3 : tie.Need-same-length-3
 same-length-3 c = search needs
 
--- src/interrupt.rt:249:9
 returns-2 : tie.Need-returns-2
 returns-2 c =
     let a = c .before .before .before .before .before .before .before .before .before .before .before .before .before .before .before .args in
@@ -68,27 +48,21 @@ returns-2 c =
     let idles = ap not (sym (c .before .before .before .before .before .before .before .before .flag2 .ensures)) ∙ c .before .before .before .before .before .before .before .if2 .taken in
     on-idle (a .lane) (a .transfer-complete) (a .dma-error) (a .turned) (a .turned-back) faults idles (c .before .before .before .before .latched .ensures spurious refl)
 
--- src/interrupt.rt:251:8
 word-at-requires : tie.Need-word-at-requires
 word-at-requires c κs = search needs
 
--- src/interrupt.rt:251:37
 completion-bit-requires : tie.Need-completion-bit-requires
 completion-bit-requires c κs = search needs
 
--- src/interrupt.rt:252:9
 latched-requires-2 : tie.Need-latched-requires-2
 latched-requires-2 c κs = search needs
 
--- src/interrupt.rt:253:9
 same-length-4 : tie.Need-same-length-4
 same-length-4 c = search needs
 
--- src/interrupt.rt:253:9
 same-length-5 : tie.Need-same-length-5
 same-length-5 c = search needs
 
--- src/interrupt.rt:253:9
 returns-3 : tie.Need-returns-3
 returns-3 c =
     let a = c .before .before .before .before .before .before .before .before .before .before .before .before .before .before .before .before .before .before .before .args in
@@ -98,19 +72,15 @@ returns-3 c =
     let mask = c .before .before .before .before .before .before .before .before .before .word-at .ensures in
     on-again (a .lane) (a .transfer-complete) (a .dma-error) (a .turned) (a .turned-back) faults idles (bit .result) (bit .ensures) (λ e. c .before .before .before .before .before .before .before .if3 .taken (ap (λ (m : ℕ). bitAnd m (bit .result)) mask ∙ e)) (c .before .before .before .before .latched2 .ensures spurious refl)
 
--- src/interrupt.rt:256:9
 latched-requires-3 : tie.Need-latched-requires-3
 latched-requires-3 c κs = search needs
 
--- src/interrupt.rt:257:9
 same-length-6 : tie.Need-same-length-6
 same-length-6 c = search needs
 
--- src/interrupt.rt:257:9
 same-length-7 : tie.Need-same-length-7
 same-length-7 c = search needs
 
--- src/interrupt.rt:257:9
 returns-4 : tie.Need-returns-4
 returns-4 c =
     let a = c .before .before .before .before .before .before .before .before .before .before .before .before .before .before .before .before .before .before .before .before .args in
@@ -121,19 +91,15 @@ returns-4 c =
     let again = ap (λ (m : ℕ). bitAnd m (bit .result)) (sym mask) ∙ c .before .before .before .before .before .before .before .before .if3 .left in
     on-error (a .lane) (a .transfer-complete) (a .dma-error) (a .turned) (a .turned-back) faults idles (bit .result) (bit .ensures) again (c .before .before .before .before .before .before .before .if4 .taken) (c .before .before .before .before .latched3 .ensures faulted refl)
 
--- src/interrupt.rt:260:9
 latched-requires-4 : tie.Need-latched-requires-4
 latched-requires-4 c κs = search needs
 
--- src/interrupt.rt:261:9
 same-length-8 : tie.Need-same-length-8
 same-length-8 c = search needs
 
--- src/interrupt.rt:261:9
 same-length-9 : tie.Need-same-length-9
 same-length-9 c = search needs
 
--- src/interrupt.rt:261:9
 returns-5 : tie.Need-returns-5
 returns-5 c =
     let a = c .before .before .before .before .before .before .before .before .before .before .before .before .before .before .before .before .before .before .before .before .before .args in
@@ -144,23 +110,18 @@ returns-5 c =
     let again = ap (λ (m : ℕ). bitAnd m (bit .result)) (sym mask) ∙ c .before .before .before .before .before .before .before .before .before .if3 .left in
     on-incomplete (a .lane) (a .transfer-complete) (a .dma-error) (a .turned) (a .turned-back) faults idles (bit .result) (bit .ensures) again (c .before .before .before .before .before .before .before .before .if4 .left) (c .before .before .before .before .before .before .before .if5 .taken) (c .before .before .before .before .latched4 .ensures spurious refl)
 
--- src/interrupt.rt:263:5
 lane-done-requires : tie.Need-lane-done-requires
 lane-done-requires c κs = search needs
 
--- src/interrupt.rt:264:5
 after-lane-requires : tie.Need-after-lane-requires
 after-lane-requires c κs = search needs
 
--- src/interrupt.rt:231:1
 same-length-10 : tie.Need-same-length-10
 same-length-10 c = search needs
 
--- src/interrupt.rt:231:1
 same-length-11 : tie.Need-same-length-11
 same-length-11 c = search needs
 
--- src/interrupt.rt:231:1
 returns-6 : tie.Need-returns-6
 returns-6 c =
     let a = c .before .before .before .before .before .before .before .before .before .before .before .before .before .before .before .before .before .before .before .before .before .before .before .before .before .args in

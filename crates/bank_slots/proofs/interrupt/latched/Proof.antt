@@ -3,48 +3,34 @@ use Rattle.bank_slots_spec.proofs.InterruptMoves.{handles-latched}
 use borrow.Author.Needs.{needs}
 use Rattle.bank_slots.proofs.interrupt.latched.Statement.{statement}
 use Rattle.bank_slots.proofs.interrupt.latched.Tie as tie
-use Rattle.bank_slots.proofs.interrupt.latched.Reads as reads
-use Rattle.bank_slots.proofs.interrupt.latched.Lts as lts
-use Rattle.bank_slots.proofs.interrupt.tell.Reads as tell-reads
-use Rattle.bank_slots.proofs.steps.latch_fault.Reads as latch-fault-reads
 
--- src/interrupt.rt:160:5
 latch-fault-requires : tie.Need-latch-fault-requires
 latch-fault-requires c κs = search needs
 
--- src/interrupt.rt:166:21
 cast-t11 : tie.Need-cast-t11
 cast-t11 c = search needs
 
--- src/interrupt.rt:166:13
 add-t12 : tie.Need-add-t12
 add-t12 c = search needs
 
--- src/interrupt.rt:169:13
 add-t13 : tie.Need-add-t13
 add-t13 c = search needs
 
--- src/interrupt.rt:170:13
 add-t14 : tie.Need-add-t14
 add-t14 c = search needs
 
--- src/interrupt.rt:171:13
 add-t15 : tie.Need-add-t15
 add-t15 c = search needs
 
--- src/interrupt.rt:161:5
 tell-requires : tie.Need-tell-requires
 tell-requires c κs = search needs
 
--- src/interrupt.rt:156:1
 same-length : tie.Need-same-length
 same-length c = search needs
 
--- src/interrupt.rt:156:1
 same-length-2 : tie.Need-same-length-2
 same-length-2 c = search needs
 
--- src/interrupt.rt:156:1
 returns : tie.Need-returns
 returns c =
     let a = c .before .before .before .before .before .before .before .before .before .before .args in

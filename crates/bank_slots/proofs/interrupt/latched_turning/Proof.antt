@@ -4,48 +4,34 @@ use Rattle.bank_slots_spec.proofs.InterruptMoves.{handles-turning}
 use borrow.Author.Needs.{needs}
 use Rattle.bank_slots.proofs.interrupt.latched_turning.Statement.{statement}
 use Rattle.bank_slots.proofs.interrupt.latched_turning.Tie as tie
-use Rattle.bank_slots.proofs.interrupt.latched_turning.Reads as reads
-use Rattle.bank_slots.proofs.interrupt.latched_turning.Lts as lts
-use Rattle.bank_slots.proofs.interrupt.tell.Reads as tell-reads
-use Rattle.bank_slots.proofs.steps.latch_fault.Reads as latch-fault-reads
 
--- src/interrupt.rt:183:5
 latch-fault-requires : tie.Need-latch-fault-requires
 latch-fault-requires c κs = search needs
 
--- src/interrupt.rt:189:21
 cast-t10 : tie.Need-cast-t10
 cast-t10 c = search needs
 
--- src/interrupt.rt:189:13
 add-t11 : tie.Need-add-t11
 add-t11 c = search needs
 
--- src/interrupt.rt:193:13
 add-t12 : tie.Need-add-t12
 add-t12 c = search needs
 
--- src/interrupt.rt:194:13
 add-t13 : tie.Need-add-t13
 add-t13 c = search needs
 
--- src/interrupt.rt:195:13
 add-t14 : tie.Need-add-t14
 add-t14 c = search needs
 
--- src/interrupt.rt:184:5
 tell-requires : tie.Need-tell-requires
 tell-requires c κs = search needs
 
--- src/interrupt.rt:178:1
 same-length : tie.Need-same-length
 same-length c = search needs
 
--- src/interrupt.rt:178:1
 same-length-2 : tie.Need-same-length-2
 same-length-2 c = search needs
 
--- src/interrupt.rt:178:1
 returns : tie.Need-returns
 returns c =
     let lane = c .before .before .before .before .before .before .before .before .before .before .args .lane in

@@ -3,41 +3,31 @@ use Rattle.bank_slots_spec.proofs.InterruptMoves.{call-unfit, call-short, call-
 use borrow.Author.Needs.{needs}
 use Rattle.bank_slots.proofs.interrupt.on_dma_interrupt.Statement.{statement}
 use Rattle.bank_slots.proofs.interrupt.on_dma_interrupt.Tie as tie
-use Rattle.bank_slots.proofs.interrupt.on_dma_interrupt.Reads as reads
-use Rattle.bank_slots.proofs.interrupt.on_dma_interrupt.Lts as lts
-use Rattle.bank_slots.proofs.interrupt.handle.Reads as handle-reads
 
--- src/interrupt.rt:282:9
 returns : tie.Need-returns
 returns c =
     let a = c .before .before .before .args in
     call-unfit (a .motor) (a .transfer-complete) (a .dma-error) (a .turned) (a .turned-back) (a .bank .now) (a .out .now) (c .if1 .taken)
 
--- src/interrupt.rt:285:9
 returns-2 : tie.Need-returns-2
 returns-2 c =
     let a = c .before .before .before .before .args in
     call-short (a .motor) (a .transfer-complete) (a .dma-error) (a .turned) (a .turned-back) (a .bank .now) (a .out .now) (c .before .if1 .left) (c .if2 .taken)
 
--- src/interrupt.rt:288:9
 returns-3 : tie.Need-returns-3
 returns-3 c =
     let a = c .before .before .before .before .before .args in
     call-refused (a .motor) (a .transfer-complete) (a .dma-error) (a .turned) (a .turned-back) (a .bank .now) (a .out .now) (c .before .before .if1 .left) (c .before .if2 .left) (c .if3 .taken)
 
--- src/interrupt.rt:290:5
 handle-requires : tie.Need-handle-requires
 handle-requires c κs = search needs
 
--- src/interrupt.rt:269:1
 same-length : tie.Need-same-length
 same-length c = search needs
 
--- src/interrupt.rt:269:1
 same-length-2 : tie.Need-same-length-2
 same-length-2 c = search needs
 
--- src/interrupt.rt:269:1
 returns-4 : tie.Need-returns-4
 returns-4 c =
     let a = c .before .before .before .before .before .before .before .before .before .before .before .before .args in

@@ -6,23 +6,16 @@ use Rattle.bank_slots_spec.proofs.InterruptMoves.{window-opened}
 use borrow.Author.Needs.{needs}
 use Rattle.bank_slots.proofs.interrupt.window_opened.Statement.{statement}
 use Rattle.bank_slots.proofs.interrupt.window_opened.Tie as tie
-use Rattle.bank_slots.proofs.interrupt.window_opened.Reads as reads
-use Rattle.bank_slots.proofs.interrupt.window_opened.Lts as lts
-use Rattle.bank_slots.proofs.memory.put_word.Reads as put-word-reads
 
--- src/interrupt.rt:94:5
 slice-write-state : tie.Need-slice-write-state
 slice-write-state c = search needs
 
--- src/interrupt.rt:95:5
 put-word-requires : tie.Need-put-word-requires
 put-word-requires c κs = search needs
 
--- src/interrupt.rt:90:1
 same-length : tie.Need-same-length
 same-length c = ap length (c .before .before .put-word .ensures) ∙ simp length-set
 
--- src/interrupt.rt:90:1
 returns : tie.Need-returns
 returns c =
     let a = c .before .before .before .before .before in

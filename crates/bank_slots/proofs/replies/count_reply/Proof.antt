@@ -8,54 +8,37 @@ use Rattle.bank_slots_spec.proofs.ReplyMoves.{counts-of}
 use borrow.Author.Needs.{needs}
 use Rattle.bank_slots.proofs.replies.count_reply.Statement.{statement}
 use Rattle.bank_slots.proofs.replies.count_reply.Tie as tie
-use Rattle.bank_slots.proofs.replies.count_reply.Reads as reads
-use Rattle.bank_slots.proofs.replies.count_reply.Lts as lts
-use Rattle.bank_slots.proofs.memory.word_at.Reads as word-at-reads
-use Rattle.bank_slots.proofs.replies.put_lane.Reads as put-lane-reads
-use Rattle.dshot_bank.proofs.LaneReply.counting.Reads as counting-reads
-use Rattle.dshot_bank.proofs.StoredReply.of.Reads as of-reads
 
--- src/replies.rt:102:31
 add-word-at : tie.Need-add-word-at
 add-word-at c = search needs
 
--- src/replies.rt:102:16
 word-at-requires : tie.Need-word-at-requires
 word-at-requires c κs = search needs
 
--- src/replies.rt:103:33
 add-word-at-2 : tie.Need-add-word-at-2
 add-word-at-2 c = search needs
 
--- src/replies.rt:103:18
 word-at-requires-2 : tie.Need-word-at-requires-2
 word-at-requires-2 c κs = search needs
 
--- src/replies.rt:104:45
 add-word-at-3 : tie.Need-add-word-at-3
 add-word-at-3 c = search needs
 
--- src/replies.rt:104:30
 word-at-requires-3 : tie.Need-word-at-requires-3
 word-at-requires-3 c κs = search needs
 
--- src/replies.rt:106:40
 of-requires : tie.Need-of-requires
 of-requires c κs = search needs
 
--- src/replies.rt:106:24
 counting-requires : tie.Need-counting-requires
 counting-requires c κs = search needs
 
--- src/replies.rt:106:5
 put-lane-requires : tie.Need-put-lane-requires
 put-lane-requires c κs = search needs
 
--- src/replies.rt:96:1
 same-length : tie.Need-same-length
 same-length c = search needs
 
--- src/replies.rt:96:1
 returns : tie.Need-returns
 returns c =
     let a = c .before .before .before .before .before .before .before .before .before .before .before .before .before .args in

@@ -17,37 +17,25 @@ use Rattle.bank_slots_spec.specs.Parts.{laneFrom}
 use borrow.Author.Needs.{needs}
 use Rattle.bank_slots.proofs.replies.decode_lane.Statement.{statement}
 use Rattle.bank_slots.proofs.replies.decode_lane.Tie as tie
-use Rattle.bank_slots.proofs.replies.decode_lane.Reads as reads
-use Rattle.bank_slots.proofs.replies.decode_lane.Lts as lts
-use Rattle.bank_slots.proofs.memory.flag.Reads as flag-reads
-use Rattle.bank_slots.proofs.replies.count_reply.Reads as count-reply-reads
-use Rattle.dshot_reply.proofs.decode_sampled_reply.Reads as decode-sampled-reply-reads
 
--- src/replies.rt:105:20
 add-flag : tie.Need-add-flag
 add-flag c = search needs
 
--- src/replies.rt:105:14
 mul-flag : tie.Need-mul-flag
 mul-flag c = search needs
 
--- src/replies.rt:105:14
 shared-slice-read-flag : tie.Need-shared-slice-read-flag
 shared-slice-read-flag c = search needs
 
--- src/replies.rt:105:9
 flag-requires : tie.Need-flag-requires
 flag-requires c κs = search needs
 
--- src/replies.rt:106:9
 count-reply-requires : tie.Need-count-reply-requires
 count-reply-requires c κs = search needs
 
--- src/replies.rt:107:9
 same-length : tie.Need-same-length
 same-length c = search needs
 
--- src/replies.rt:107:9
 returns : tie.Need-returns
 returns c =
     let a = c .before .before .before .before .before .before .before .before .before .before .args in
@@ -56,55 +44,42 @@ returns c =
     c .before .before .count-reply .ensures
     ∙ ap (λ (r : Answer Reading). write (laneRows (a .k) (countReply r (laneFrom (a .k) (at xs)))) xs) (off _ _ absent refl)
 
--- src/replies.rt:109:16
 mul-from : tie.Need-mul-from
 mul-from c = search needs
 
--- src/replies.rt:110:14
 add-to : tie.Need-add-to
 add-to c = search needs
 
--- src/replies.rt:111:50
 mul-decode-sampled-reply : tie.Need-mul-decode-sampled-reply
 mul-decode-sampled-reply c = search needs
 
--- src/replies.rt:111:50
 sub-decode-sampled-reply : tie.Need-sub-decode-sampled-reply
 sub-decode-sampled-reply c = search needs
 
--- src/replies.rt:111:50
 part-decode-sampled-reply-start : tie.Need-part-decode-sampled-reply-start
 part-decode-sampled-reply-start c = search needs
 
--- src/replies.rt:111:50
 part-decode-sampled-reply-end : tie.Need-part-decode-sampled-reply-end
 part-decode-sampled-reply-end c = search needs
 
--- src/replies.rt:111:77
 add-decode-sampled-reply : tie.Need-add-decode-sampled-reply
 add-decode-sampled-reply c = search needs
 
--- src/replies.rt:111:71
 mul-decode-sampled-reply-2 : tie.Need-mul-decode-sampled-reply-2
 mul-decode-sampled-reply-2 c = search needs
 
--- src/replies.rt:111:71
 shared-slice-read-decode-sampled-reply : tie.Need-shared-slice-read-decode-sampled-reply
 shared-slice-read-decode-sampled-reply c = search needs
 
--- src/replies.rt:111:9
 decode-sampled-reply-requires : tie.Need-decode-sampled-reply-requires
 decode-sampled-reply-requires c κs = search needs
 
--- src/replies.rt:112:5
 count-reply-requires-2 : tie.Need-count-reply-requires-2
 count-reply-requires-2 c κs = search needs
 
--- src/replies.rt:101:1
 same-length-2 : tie.Need-same-length-2
 same-length-2 c = search needs
 
--- src/replies.rt:101:1
 returns-2 : tie.Need-returns-2
 returns-2 c =
     let a = c .before .before .before .before .before .before .before .before .before .before .before .before .before .args in

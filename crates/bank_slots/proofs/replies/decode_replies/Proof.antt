@@ -3,43 +3,31 @@ use Rattle.bank_slots_spec.proofs.ReplyMoves.{replies-decoded}
 use borrow.Author.Needs.{needs}
 use Rattle.bank_slots.proofs.replies.decode_replies.Statement.{statement}
 use Rattle.bank_slots.proofs.replies.decode_replies.Tie as tie
-use Rattle.bank_slots.proofs.replies.decode_replies.Reads as reads
-use Rattle.bank_slots.proofs.replies.decode_replies.Lts as lts
-use Rattle.bank_slots.proofs.replies.decode_lane.Reads as decode-lane-reads
 
--- src/replies.rt:124:5
 decode-lane-requires : tie.Need-decode-lane-requires
 decode-lane-requires c κs = search needs
 
--- src/replies.rt:125:24
 add-decode-lane : tie.Need-add-decode-lane
 add-decode-lane c = search needs
 
--- src/replies.rt:125:5
 decode-lane-requires-2 : tie.Need-decode-lane-requires-2
 decode-lane-requires-2 c κs = search needs
 
--- src/replies.rt:126:24
 add-decode-lane-2 : tie.Need-add-decode-lane-2
 add-decode-lane-2 c = search needs
 
--- src/replies.rt:126:5
 decode-lane-requires-3 : tie.Need-decode-lane-requires-3
 decode-lane-requires-3 c κs = search needs
 
--- src/replies.rt:127:24
 add-decode-lane-3 : tie.Need-add-decode-lane-3
 add-decode-lane-3 c = search needs
 
--- src/replies.rt:127:5
 decode-lane-requires-4 : tie.Need-decode-lane-requires-4
 decode-lane-requires-4 c κs = search needs
 
--- src/replies.rt:120:1
 same-length : tie.Need-same-length
 same-length c = search needs
 
--- src/replies.rt:120:1
 returns : tie.Need-returns
 returns c =
     let a = c .before .before .before .before .before .before .before .before .before .before .before .before .before .before .before .before .before .before .before in

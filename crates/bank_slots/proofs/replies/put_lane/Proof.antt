@@ -7,75 +7,56 @@ use Rattle.bank_slots_spec.specs.Memory.{write, wordRows}
 use borrow.Author.Needs.{needs}
 use Rattle.bank_slots.proofs.replies.put_lane.Statement.{statement}
 use Rattle.bank_slots.proofs.replies.put_lane.Tie as tie
-use Rattle.bank_slots.proofs.replies.put_lane.Reads as reads
-use Rattle.bank_slots.proofs.replies.put_lane.Lts as lts
-use Rattle.bank_slots.proofs.memory.put_word.Reads as put-word-reads
-use Rattle.bank_slots.proofs.replies.stored_kind.Reads as stored-kind-reads
-use Rattle.bank_slots.proofs.replies.stored_number.Reads as stored-number-reads
 
--- src/replies.rt:78:16
 stored-kind-requires : tie.Need-stored-kind-requires
 stored-kind-requires c κs = search needs
 
--- src/replies.rt:78:5
 mul-state : tie.Need-mul-state
 mul-state c = search needs
 
--- src/replies.rt:78:5
 slice-write-state : tie.Need-slice-write-state
 slice-write-state c = search needs
 
--- src/replies.rt:79:21
 add-put-word : tie.Need-add-put-word
 add-put-word c = search needs
 
--- src/replies.rt:79:28
 stored-number-requires : tie.Need-stored-number-requires
 stored-number-requires c κs = search needs
 
--- src/replies.rt:79:5
 put-word-requires : tie.Need-put-word-requires
 put-word-requires c κs =
     let a = c .before .before .before .before in
     omega (arith, length-set (a .args .state .now) (a .args .k) (c .before .before .stored-kind .result), a .pre)
 
--- src/replies.rt:80:21
 add-put-word-2 : tie.Need-add-put-word-2
 add-put-word-2 c = search needs
 
--- src/replies.rt:80:5
 put-word-requires-2 : tie.Need-put-word-requires-2
 put-word-requires-2 c κs =
     let a = c .before .before .before .before .before .before .before .before in
     omega (arith, c .before .before .state .given, length-set (a .args .state .now) (a .args .k) (c .before .before .before .before .before .before .stored-kind .result), a .pre)
 
--- src/replies.rt:81:21
 add-put-word-3 : tie.Need-add-put-word-3
 add-put-word-3 c = search needs
 
--- src/replies.rt:81:5
 put-word-requires-3 : tie.Need-put-word-requires-3
 put-word-requires-3 c κs =
     let a = c .before .before .before .before .before .before .before .before .before .before .before .before in
     omega (arith, c .before .before .state2 .given, c .before .before .before .before .before .before .state .given, length-set (a .args .state .now) (a .args .k) (c .before .before .before .before .before .before .before .before .before .before .stored-kind .result), a .pre)
 
--- src/replies.rt:82:21
 add-put-word-4 : tie.Need-add-put-word-4
 add-put-word-4 c = search needs
 
--- src/replies.rt:82:5
 put-word-requires-4 : tie.Need-put-word-requires-4
 put-word-requires-4 c κs =
     let a = c .before .before .before .before .before .before .before .before .before .before .before .before .before .before .before .before in
     omega (arith, c .before .before .state3 .given, c .before .before .before .before .before .before .state2 .given, c .before .before .before .before .before .before .before .before .before .before .state .given, length-set (a .args .state .now) (a .args .k) (c .before .before .before .before .before .before .before .before .before .before .before .before .before .before .stored-kind .result), a .pre)
 
--- src/replies.rt:73:1
 same-length : tie.Need-same-length
 same-length c =
     let a = c .before .before .before .before .before .before .before .before .before .before .before .before .before .before .before .before .before .before .before .args in
     c .before .state4 .given ∙ c .before .before .before .before .before .state3 .given ∙ c .before .before .before .before .before .before .before .before .before .state2 .given ∙ c .before .before .before .before .before .before .before .before .before .before .before .before .before .state .given ∙ length-set (a .state .now) (a .k) (c .before .before .before .before .before .before .before .before .before .before .before .before .before .before .before .before .before .stored-kind .result)
 
--- src/replies.rt:73:1
 returns : tie.Need-returns
 returns c =
     let a = c .before .before .before .before .before .before .before .before .before .before .before .before .before .before .before .before .before .before .before .args in

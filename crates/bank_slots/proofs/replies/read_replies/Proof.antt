@@ -5,42 +5,30 @@ use Rattle.bank_slots_spec.proofs.ReplyMoves.{none-waits, windows-read}
 use borrow.Author.Needs.{needs}
 use Rattle.bank_slots.proofs.replies.read_replies.Statement.{statement}
 use Rattle.bank_slots.proofs.replies.read_replies.Tie as tie
-use Rattle.bank_slots.proofs.replies.read_replies.Reads as reads
-use Rattle.bank_slots.proofs.replies.read_replies.Lts as lts
-use Rattle.bank_slots.proofs.memory.flag.Reads as flag-reads
-use Rattle.bank_slots.proofs.replies.decode_replies.Reads as decode-replies-reads
 
--- src/replies.rt:135:14
 slice-read-flag : tie.Need-slice-read-flag
 slice-read-flag c = search needs
 
--- src/replies.rt:135:9
 flag-requires : tie.Need-flag-requires
 flag-requires c κs = search needs
 
--- src/replies.rt:136:9
 returns : tie.Need-returns
 returns c =
     let a = c .before .before .before .before .before .before .args in
     none-waits (a .lanes .now) (a .captures .now) (a .state .now) (sym (c .before .flag .ensures) ∙ not-true _ (c .if1 .taken))
 
--- src/replies.rt:138:5
 decode-replies-requires : tie.Need-decode-replies-requires
 decode-replies-requires c κs = search needs
 
--- src/replies.rt:139:5
 slice-write-state : tie.Need-slice-write-state
 slice-write-state c = search needs
 
--- src/replies.rt:140:5
 slice-write-state-2 : tie.Need-slice-write-state-2
 slice-write-state-2 c = search needs
 
--- src/replies.rt:131:1
 same-length : tie.Need-same-length
 same-length c = search needs
 
--- src/replies.rt:131:1
 returns-2 : tie.Need-returns-2
 returns-2 c =
     let a = c .before .before .before .before .before .before .before .before .before .before in

@@ -6,134 +6,100 @@ use Rattle.bank_slots_spec.specs.Layout.{replyNumber}
 use borrow.Author.Needs.{needs}
 use Rattle.bank_slots.proofs.replies.stored_number.Statement.{statement}
 use Rattle.bank_slots.proofs.replies.stored_number.Tie as tie
-use Rattle.bank_slots.proofs.replies.stored_number.Reads as reads
-use Rattle.bank_slots.proofs.replies.stored_number.Lts as lts
 
--- src/replies.rt:57:27
 enum-known-reply : tie.Need-enum-known-reply
 enum-known-reply c = search needs
 
--- src/replies.rt:58:34
 enum-known-reply-2 : tie.Need-enum-known-reply-2
 enum-known-reply-2 c = search needs
 
--- src/replies.rt:58:40
 cast-result : tie.Need-cast-result
 cast-result c = search needs
 
--- src/replies.rt:59:30
 enum-known-reply-3 : tie.Need-enum-known-reply-3
 enum-known-reply-3 c = search needs
 
--- src/replies.rt:59:36
 cast-result-2 : tie.Need-cast-result-2
 cast-result-2 c = search needs
 
--- src/replies.rt:60:30
 enum-known-reply-4 : tie.Need-enum-known-reply-4
 enum-known-reply-4 c = search needs
 
--- src/replies.rt:60:36
 cast-result-3 : tie.Need-cast-result-3
 cast-result-3 c = search needs
 
--- src/replies.rt:61:28
 enum-known-reply-5 : tie.Need-enum-known-reply-5
 enum-known-reply-5 c = search needs
 
--- src/replies.rt:61:50
 cast-result-4 : tie.Need-cast-result-4
 cast-result-4 c = search needs
 
--- src/replies.rt:61:43
 mul-result : tie.Need-mul-result
 mul-result c = search needs
 
--- src/replies.rt:61:68
 cast-result-5 : tie.Need-cast-result-5
 cast-result-5 c = search needs
 
--- src/replies.rt:61:43
 add-result : tie.Need-add-result
 add-result c = search needs
 
--- src/replies.rt:62:33
 enum-known-reply-6 : tie.Need-enum-known-reply-6
 enum-known-reply-6 c = search needs
 
--- src/replies.rt:62:39
 cast-result-6 : tie.Need-cast-result-6
 cast-result-6 c = search needs
 
--- src/replies.rt:63:50
 enum-told : tie.Need-enum-told
 enum-told c = search needs
 
--- src/replies.rt:64:33
 enum-told-2 : tie.Need-enum-told-2
 enum-told-2 c = search needs
 
--- src/replies.rt:65:34
 enum-told-3 : tie.Need-enum-told-3
 enum-told-3 c = search needs
 
--- src/replies.rt:66:39
 enum-told-4 : tie.Need-enum-told-4
 enum-told-4 c = search needs
 
--- src/replies.rt:67:34
 enum-told-5 : tie.Need-enum-told-5
 enum-told-5 c = search needs
 
--- src/replies.rt:68:36
 enum-told-6 : tie.Need-enum-told-6
 enum-told-6 c = search needs
 
--- src/replies.rt:53:1
 returns : tie.Need-returns
 returns c = search needs
 
--- src/replies.rt:53:1
 returns-2 : tie.Need-returns-2
 returns-2 c = search needs
 
--- src/replies.rt:53:1
 returns-3 : tie.Need-returns-3
 returns-3 c = search needs
 
--- src/replies.rt:53:1
 returns-4 : tie.Need-returns-4
 returns-4 c = search needs
 
--- src/replies.rt:53:1
 returns-5 : tie.Need-returns-5
 returns-5 c = sym (ap (λ (r : StoredReply). replyNumber (storedAnswer r)) (c .before .reply5 .given .1))
 
--- src/replies.rt:53:1
 returns-6 : tie.Need-returns-6
 returns-6 c = search needs
 
--- src/replies.rt:53:1
 returns-7 : tie.Need-returns-7
 returns-7 c = search needs
 
--- src/replies.rt:53:1
 returns-8 : tie.Need-returns-8
 returns-8 c = search needs
 
--- src/replies.rt:53:1
 returns-9 : tie.Need-returns-9
 returns-9 c = search needs
 
--- src/replies.rt:53:1
 returns-10 : tie.Need-returns-10
 returns-10 c = search needs
 
--- src/replies.rt:53:1
 returns-11 : tie.Need-returns-11
 returns-11 c = search needs
 
--- src/replies.rt:53:1
 returns-12 : tie.Need-returns-12
 returns-12 c = search needs
 

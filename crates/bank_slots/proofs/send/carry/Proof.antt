@@ -3,34 +3,25 @@ use Rattle.bank_slots_spec.proofs.SendMoves.{none-carried, no-request, request-
 use borrow.Author.Needs.{needs}
 use Rattle.bank_slots.proofs.send.carry.Statement.{statement}
 use Rattle.bank_slots.proofs.send.carry.Tie as tie
-use Rattle.bank_slots.proofs.send.carry.Reads as reads
-use Rattle.bank_slots.proofs.send.carry.Lts as lts
 
--- src/send.rt:323:9
 returns : tie.Need-returns
 returns c = none-carried (c .before .args .state .now) (c .before .pre) (c .before .args .ordinary) (c .if1 .taken)
 
--- src/send.rt:325:19
 slice-read-request : tie.Need-slice-read-request
 slice-read-request c = search needs
 
--- src/send.rt:327:9
 returns-2 : tie.Need-returns-2
 returns-2 c = no-request (c .before .before .before .args .state .now) (c .before .before .before .pre) (c .before .before .before .args .ordinary) (c .if2 .taken)
 
--- src/send.rt:329:5
 slice-write-state : tie.Need-slice-write-state
 slice-write-state c = search needs
 
--- src/send.rt:330:5
 slice-write-state-2 : tie.Need-slice-write-state-2
 slice-write-state-2 c = search needs
 
--- src/send.rt:318:1
 same-length : tie.Need-same-length
 same-length c = search needs
 
--- src/send.rt:318:1
 returns-3 : tie.Need-returns-3
 returns-3 c = request-carried (c .before .before .before .args .state .now) (c .before .before .before .pre) (c .before .before .before .args .ordinary) (c .before .before .if1 .left) (c .if2 .left)
 

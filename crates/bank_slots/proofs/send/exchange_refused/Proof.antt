@@ -3,24 +3,16 @@ use Rattle.bank_slots_spec.proofs.SendMoves.{exchange-refused}
 use borrow.Author.Needs.{needs}
 use Rattle.bank_slots.proofs.send.exchange_refused.Statement.{statement}
 use Rattle.bank_slots.proofs.send.exchange_refused.Tie as tie
-use Rattle.bank_slots.proofs.send.exchange_refused.Reads as reads
-use Rattle.bank_slots.proofs.send.exchange_refused.Lts as lts
-use Rattle.bank_slots.proofs.send.turn_marks.Reads as turn-marks-reads
-use Rattle.bank_slots.proofs.steps.latch_fault.Reads as latch-fault-reads
 
--- src/send.rt:289:5
 turn-marks-requires : tie.Need-turn-marks-requires
 turn-marks-requires c κs = search needs
 
--- src/send.rt:290:5
 latch-fault-requires : tie.Need-latch-fault-requires
 latch-fault-requires c κs = search needs
 
--- src/send.rt:285:1
 same-length : tie.Need-same-length
 same-length c = search needs
 
--- src/send.rt:285:1
 returns : tie.Need-returns
 returns c = exchange-refused (c .before .before .before .before .before .before .before .before .before .args .lane) (c .before .before .before .before .before .before .turn-marks .ensures) (c .before .before .latch-fault .ensures)
 

@@ -4,33 +4,22 @@ use Rattle.bank_slots_spec.proofs.SendMoves.{flown-length, in-flight-length, in
 use borrow.Author.Needs.{needs}
 use Rattle.bank_slots.proofs.send.fly.Statement.{statement}
 use Rattle.bank_slots.proofs.send.fly.Tie as tie
-use Rattle.bank_slots.proofs.send.fly.Reads as reads
-use Rattle.bank_slots.proofs.send.fly.Lts as lts
-use Rattle.bank_slots.proofs.memory.bump.Reads as bump-reads
-use Rattle.bank_slots.proofs.memory.put_long.Reads as put-long-reads
-use Rattle.bank_slots.proofs.memory.put_word.Reads as put-word-reads
 
--- src/send.rt:311:5
 put-long-requires : tie.Need-put-long-requires
 put-long-requires c κs = search needs
 
--- src/send.rt:312:5
 put-word-requires : tie.Need-put-word-requires
 put-word-requires c κs = search needs
 
--- src/send.rt:313:5
 slice-write-state : tie.Need-slice-write-state
 slice-write-state c = search needs
 
--- src/send.rt:314:5
 bump-requires : tie.Need-bump-requires
 bump-requires c κs = omega (arith, flown-length (c .before .before .before .before .before .before .before .before .before .before .args .state .now) (c .before .before .before .before .before .before .before .before .before .before .pre) (c .before .before .before .before .before .before .before .before .before .before .args .now-ms) (c .before .before .before .before .before .before .before .put-long .ensures) (c .before .before .before .put-word .ensures))
 
--- src/send.rt:307:1
 same-length : tie.Need-same-length
 same-length c = in-flight-length (c .before .before .before .before .before .before .before .before .before .before .before .before .before .args .state .now) (c .before .before .before .before .before .before .before .before .before .before .before .before .before .pre) (c .before .before .before .before .before .before .before .before .before .before .before .before .before .args .now-ms) (c .before .before .before .before .before .before .before .before .before .before .put-long .ensures) (c .before .before .before .before .before .before .put-word .ensures) (c .before .before .bump .ensures)
 
--- src/send.rt:307:1
 returns : tie.Need-returns
 returns c = in-flight (c .before .before .before .before .before .before .before .before .before .before .before .before .before .args .state .now) (c .before .before .before .before .before .before .before .before .before .before .before .before .before .pre) (c .before .before .before .before .before .before .before .before .before .before .before .before .before .args .now-ms) (c .before .before .before .before .before .before .before .before .before .before .put-long .ensures) (c .before .before .before .before .before .before .put-word .ensures) (c .before .before .bump .ensures) (search needs)
 

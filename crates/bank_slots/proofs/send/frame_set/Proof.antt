@@ -7,44 +7,31 @@ use Rattle.bank_slots.specs.Frames.{motorCommandOf, OnLane}
 use borrow.Author.Needs.{needs}
 use Rattle.bank_slots.proofs.send.frame_set.Statement.{statement}
 use Rattle.bank_slots.proofs.send.frame_set.Tie as tie
-use Rattle.bank_slots.proofs.send.frame_set.Reads as reads
-use Rattle.bank_slots.proofs.send.frame_set.Lts as lts
-use Rattle.bank_slots.proofs.send.one_lane.Reads as one-lane-reads
-use Rattle.bank_slots.proofs.send.request_lane.Reads as request-lane-reads
-use Rattle.bank_slots.proofs.send.values_at.Reads as values-at-reads
 
--- src/send.rt:193:28
 enum-known-command : tie.Need-enum-known-command
 enum-known-command c = search needs
 
--- src/send.rt:194:21
 one-lane-requires : tie.Need-one-lane-requires
 one-lane-requires c κs = subst OnLane (c .before .command .given .1) (c .before .before .before .before .pre .1)
 
--- src/send.rt:199:21
 enum-told : tie.Need-enum-told
 enum-told c = search needs
 
--- src/send.rt:199:21
 values-at-requires : tie.Need-values-at-requires
 values-at-requires c κs = search needs
 
--- src/send.rt:200:42
 shared-slice-read-request-lane : tie.Need-shared-slice-read-request-lane
 shared-slice-read-request-lane c = search needs
 
--- src/send.rt:200:29
 request-lane-requires : tie.Need-request-lane-requires
 request-lane-requires c κs = search needs
 
--- src/send.rt:188:1
 returns : tie.Need-returns
 returns c =
     let a = c .before .before .before .before .before .args in
     let e = sym (ap (λ (n : NextFrame). frameSet 4 (load (a .state .now) .core) (motorCommandOf n)) (c .before .before .command .given .1)) in
     record { values = c .one-lane .ensures ∙ ap (λ (f : FrameSet). f .values) e; lane = ap (λ (f : FrameSet). f .telemetryLane) e; request = ap (λ (f : FrameSet). f .telemetryRequest) e }
 
--- src/send.rt:188:1
 returns-2 : tie.Need-returns-2
 unfolding load
 returns-2 c =

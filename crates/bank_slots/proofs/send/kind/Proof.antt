@@ -6,24 +6,17 @@ use Rattle.bank_slots_spec.specs.Layout.{load}
 use borrow.Author.Needs.{needs}
 use Rattle.bank_slots.proofs.send.kind.Statement.{statement}
 use Rattle.bank_slots.proofs.send.kind.Tie as tie
-use Rattle.bank_slots.proofs.send.kind.Reads as reads
-use Rattle.bank_slots.proofs.send.kind.Lts as lts
-use Rattle.bank_slots.proofs.memory.flag.Reads as flag-reads
 
--- src/send.rt:210:13
 shared-slice-read-flag : tie.Need-shared-slice-read-flag
 shared-slice-read-flag c = search needs
 
--- src/send.rt:210:8
 flag-requires : tie.Need-flag-requires
 flag-requires c κs = search needs
 
--- src/send.rt:206:1
 returns : tie.Need-returns
 unfolding load
 returns c = on inverted plain (sym (c .before .flag .ensures) ∙ c .if1 .taken) refl
 
--- src/send.rt:206:1
 returns-2 : tie.Need-returns-2
 unfolding load
 returns-2 c = off inverted plain (sym (c .before .flag .ensures) ∙ c .if1 .left) refl

@@ -4,67 +4,49 @@ use Rattle.bank_slots_spec.specs.Layout.{load}
 use borrow.Author.Needs.{needs}
 use Rattle.bank_slots.proofs.send.marks_at.Statement.{statement}
 use Rattle.bank_slots.proofs.send.marks_at.Tie as tie
-use Rattle.bank_slots.proofs.send.marks_at.Reads as reads
-use Rattle.bank_slots.proofs.send.marks_at.Lts as lts
-use Rattle.bank_slots.proofs.memory.flag.Reads as flag-reads
 
--- src/send.rt:234:14
 shared-slice-read-flag : tie.Need-shared-slice-read-flag
 shared-slice-read-flag c = search needs
 
--- src/send.rt:234:9
 flag-requires : tie.Need-flag-requires
 flag-requires c κs = search needs
 
--- src/send.rt:235:20
 add-flag : tie.Need-add-flag
 add-flag c = search needs
 
--- src/send.rt:235:14
 mul-flag : tie.Need-mul-flag
 mul-flag c = search needs
 
--- src/send.rt:235:14
 shared-slice-read-flag-2 : tie.Need-shared-slice-read-flag-2
 shared-slice-read-flag-2 c = search needs
 
--- src/send.rt:235:9
 flag-requires-2 : tie.Need-flag-requires-2
 flag-requires-2 c κs = search needs
 
--- src/send.rt:236:20
 add-flag-2 : tie.Need-add-flag-2
 add-flag-2 c = search needs
 
--- src/send.rt:236:14
 mul-flag-2 : tie.Need-mul-flag-2
 mul-flag-2 c = search needs
 
--- src/send.rt:236:14
 shared-slice-read-flag-3 : tie.Need-shared-slice-read-flag-3
 shared-slice-read-flag-3 c = search needs
 
--- src/send.rt:236:9
 flag-requires-3 : tie.Need-flag-requires-3
 flag-requires-3 c κs = search needs
 
--- src/send.rt:237:20
 add-flag-3 : tie.Need-add-flag-3
 add-flag-3 c = search needs
 
--- src/send.rt:237:14
 mul-flag-3 : tie.Need-mul-flag-3
 mul-flag-3 c = search needs
 
--- src/send.rt:237:14
 shared-slice-read-flag-4 : tie.Need-shared-slice-read-flag-4
 shared-slice-read-flag-4 c = search needs
 
--- src/send.rt:237:9
 flag-requires-4 : tie.Need-flag-requires-4
 flag-requires-4 c κs = search needs
 
--- src/send.rt:229:1
 returns : tie.Need-returns
 unfolding load
 returns c = λ j. c .before .before .before .before .before .before .flag .ensures j ∷ c .before .before .before .before .flag2 .ensures j ∷ c .before .before .flag3 .ensures j ∷ c .flag4 .ensures j ∷ []

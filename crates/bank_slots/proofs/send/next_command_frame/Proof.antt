@@ -3,65 +3,46 @@ use Rattle.bank_slots_spec.proofs.SendMoves.{frame-cancelled, frame-none, frame
 use borrow.Author.Needs.{needs}
 use Rattle.bank_slots.proofs.send.next_command_frame.Statement.{statement}
 use Rattle.bank_slots.proofs.send.next_command_frame.Tie as tie
-use Rattle.bank_slots.proofs.send.next_command_frame.Reads as reads
-use Rattle.bank_slots.proofs.send.next_command_frame.Lts as lts
-use Rattle.bank_slots.proofs.commands.any_above.Reads as any-above-reads
-use Rattle.bank_slots.proofs.send.clear_run.Reads as clear-run-reads
-use Rattle.bank_slots.proofs.send.step_run.Reads as step-run-reads
 
--- src/send.rt:141:33
 add-any-above : tie.Need-add-any-above
 add-any-above c = search needs
 
--- src/send.rt:141:18
 sub-any-above : tie.Need-sub-any-above
 sub-any-above c = search needs
 
--- src/send.rt:141:18
 part-any-above-start : tie.Need-part-any-above-start
 part-any-above-start c = search needs
 
--- src/send.rt:141:18
 part-any-above-end : tie.Need-part-any-above-end
 part-any-above-end c = search needs
 
--- src/send.rt:141:8
 any-above-requires : tie.Need-any-above-requires
 any-above-requires c κs = search needs
 
--- src/send.rt:142:9
 clear-run-requires : tie.Need-clear-run-requires
 clear-run-requires c κs = search needs
 
--- src/send.rt:143:9
 same-length : tie.Need-same-length
 same-length c = search needs
 
--- src/send.rt:143:9
 returns : tie.Need-returns
 returns c = (tt, frame-cancelled (c .before .before .before .before .before .before .before .before .before .args .state .now) (c .before .before .before .before .before .before .before .before .before .pre) (c .before .before .before .before .before .any-above .result) (c .before .before .before .before .before .any-above .ensures) (c .before .before .before .before .if1 .taken) (c .before .before .clear-run .ensures))
 
--- src/send.rt:145:8
 slice-read-if2 : tie.Need-slice-read-if2
 slice-read-if2 c = search needs
 
--- src/send.rt:146:9
 same-length-2 : tie.Need-same-length-2
 same-length-2 c = search needs
 
--- src/send.rt:146:9
 returns-2 : tie.Need-returns-2
 returns-2 c = (tt, frame-none (c .before .before .before .before .before .before .before .args .state .now) (c .before .before .before .before .before .before .before .pre) (c .before .before .before .any-above .result) (c .before .before .before .any-above .ensures) (c .before .before .if1 .left) (c .if2 .taken))
 
--- src/send.rt:148:5
 step-run-requires : tie.Need-step-run-requires
 step-run-requires c κs = search needs
 
--- src/send.rt:135:1
 same-length-3 : tie.Need-same-length-3
 same-length-3 c = search needs
 
--- src/send.rt:135:1
 returns-3 : tie.Need-returns-3
 returns-3 c =
     let s = c .before .before .step-run .ensures in

@@ -5,22 +5,16 @@ use native.Mathlib.Omega.{arith}
 use lib.ListN.{set, replicate}
 use Rattle.bank_slots.proofs.send.one_lane.Statement.{statement}
 use Rattle.bank_slots.proofs.send.one_lane.Tie as tie
-use Rattle.bank_slots.proofs.send.one_lane.Reads as reads
-use Rattle.bank_slots.proofs.send.one_lane.Lts as lts
 
--- src/send.rt:166:1
 returns : tie.Need-returns
 returns c = let e : c .before .args .motor ≡ 0 = omega (arith, c .match .keys1) in sym (ap (λ (m : ℕ). set (replicate 4 0) m (c .before .args .command)) e)
 
--- src/send.rt:166:1
 returns-2 : tie.Need-returns-2
 returns-2 c = let e : c .before .args .motor ≡ 1 = omega (arith, c .match .keys2) in sym (ap (λ (m : ℕ). set (replicate 4 0) m (c .before .args .command)) e)
 
--- src/send.rt:166:1
 returns-3 : tie.Need-returns-3
 returns-3 c = let e : c .before .args .motor ≡ 2 = omega (arith, c .match .keys3) in sym (ap (λ (m : ℕ). set (replicate 4 0) m (c .before .args .command)) e)
 
--- src/send.rt:166:1
 returns-4 : tie.Need-returns-4
 returns-4 c = let e : c .before .args .motor ≡ 3 = omega (arith, c .match .rest, c .before .pre) in sym (ap (λ (m : ℕ). set (replicate 4 0) m (c .before .args .command)) e)
 

@@ -7,25 +7,19 @@ use Rattle.dshot_bank_spec.specs.Order.{refusedOrders}
 use Rattle.bank_slots_spec.specs.Outs.{codes}
 use Rattle.bank_slots.proofs.send.refused_orders.Statement.{statement}
 use Rattle.bank_slots.proofs.send.refused_orders.Tie as tie
-use Rattle.bank_slots.proofs.send.refused_orders.Reads as reads
-use Rattle.bank_slots.proofs.send.refused_orders.Lts as lts
 
--- src/send.rt:294:1
 returns : tie.Need-returns
 unfolding tabulate
 returns c = let e : c .before .args .lane ≡ 0 = omega (arith, c .match .keys1) in sym (ap (λ (k : ℕ). codes 9 (refusedOrders 4 k)) e)
 
--- src/send.rt:294:1
 returns-2 : tie.Need-returns-2
 unfolding tabulate
 returns-2 c = let e : c .before .args .lane ≡ 1 = omega (arith, c .match .keys2) in sym (ap (λ (k : ℕ). codes 9 (refusedOrders 4 k)) e)
 
--- src/send.rt:294:1
 returns-3 : tie.Need-returns-3
 unfolding tabulate
 returns-3 c = let e : c .before .args .lane ≡ 2 = omega (arith, c .match .keys3) in sym (ap (λ (k : ℕ). codes 9 (refusedOrders 4 k)) e)
 
--- src/send.rt:294:1
 returns-4 : tie.Need-returns-4
 unfolding tabulate
 returns-4 c = let e : c .before .args .lane ≡ 3 = omega (arith, c .match .rest, c .before .pre) in sym (ap (λ (k : ℕ). codes 9 (refusedOrders 4 k)) e)

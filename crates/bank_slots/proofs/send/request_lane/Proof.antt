@@ -3,22 +3,16 @@ use Rattle.bank_slots_spec.proofs.SendMoves.{no-lane, request-lane}
 use borrow.Author.Needs.{needs}
 use Rattle.bank_slots.proofs.send.request_lane.Statement.{statement}
 use Rattle.bank_slots.proofs.send.request_lane.Tie as tie
-use Rattle.bank_slots.proofs.send.request_lane.Reads as reads
-use Rattle.bank_slots.proofs.send.request_lane.Lts as lts
 
--- src/send.rt:182:9
 returns : tie.Need-returns
 returns c = no-lane (c .before .args .slot) (c .if1 .taken)
 
--- src/send.rt:184:27
 sub-t3 : tie.Need-sub-t3
 sub-t3 c = search needs
 
--- src/send.rt:184:25
 cast-t5 : tie.Need-cast-t5
 cast-t5 c = search needs
 
--- src/send.rt:178:1
 returns-2 : tie.Need-returns-2
 returns-2 c = request-lane (c .before .args .slot) (c .if1 .left)
 

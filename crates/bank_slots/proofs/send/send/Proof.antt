@@ -6,91 +6,58 @@ use Rattle.bank_slots.specs.Frames.{motorCommandOf}
 use borrow.Author.Needs.{needs}
 use Rattle.bank_slots.proofs.send.send.Statement.{statement}
 use Rattle.bank_slots.proofs.send.send.Tie as tie
-use Rattle.bank_slots.proofs.send.send.Reads as reads
-use Rattle.bank_slots.proofs.send.send.Lts as lts
-use Rattle.bank_slots.proofs.send.exchange_refused.Reads as exchange-refused-reads
-use Rattle.bank_slots.proofs.send.frame_set.Reads as frame-set-reads
-use Rattle.bank_slots.proofs.send.frame_started.Reads as frame-started-reads
-use Rattle.bank_slots.proofs.send.kind.Reads as kind-reads
-use Rattle.bank_slots.proofs.send.lanes_taken.Reads as lanes-taken-reads
-use Rattle.bank_slots.proofs.send.marks_at.Reads as marks-at-reads
-use Rattle.bank_slots.proofs.send.next_command_frame.Reads as next-command-frame-reads
-use Rattle.bank_slots.proofs.send.refused_orders.Reads as refused-orders-reads
-use Rattle.bank_slots.proofs.send.sent_event.Reads as sent-event-reads
-use Rattle.bank_slots.proofs.send.tell.Reads as tell-reads
-use Rattle.bank_slots.proofs.send.timing_at.Reads as timing-at-reads
-use Rattle.dshot.proofs.packets_of_kind.Reads as packets-of-kind-reads
-use Rattle.dshot_bank.proofs.send.encode_spares.Reads as encode-spares-reads
 
--- src/send.rt:388:9
 next-command-frame-requires : tie.Need-next-command-frame-requires
 next-command-frame-requires c κs = search needs
 
--- src/send.rt:389:9
 frame-set-requires : tie.Need-frame-set-requires
 frame-set-requires c κs = search needs
 
--- src/send.rt:392:42
 kind-requires : tie.Need-kind-requires
 kind-requires c κs = search needs
 
--- src/send.rt:392:9
 packets-of-kind-requires : tie.Need-packets-of-kind-requires
 packets-of-kind-requires c κs = search needs
 
--- src/send.rt:393:47
 marks-at-requires : tie.Need-marks-at-requires
 marks-at-requires c κs = search needs
 
--- src/send.rt:393:73
 timing-at-requires : tie.Need-timing-at-requires
 timing-at-requires c κs = search needs
 
--- src/send.rt:393:9
 encode-spares-requires : tie.Need-encode-spares-requires
 encode-spares-requires c κs = search needs
 
--- src/send.rt:394:9
 lanes-taken-requires : tie.Need-lanes-taken-requires
 lanes-taken-requires c κs = c .before .before .before .before .before .before .before .before .before .before .before .before .before .before .before .before .before .before .before .before .before .before .before .before .before .before .pre .1
 
--- src/send.rt:396:9
 exchange-refused-requires : tie.Need-exchange-refused-requires
 exchange-refused-requires c κs = c .before .before .before .before .before .before .before .before .before .before .before .before .before .before .before .before .before .before .before .before .before .state .given ∙ c .before .before .before .before .before .before .before .before .before .before .before .before .before .before .before .before .before .before .before .before .before .before .before .before .before .before .before .before .before .pre .0
 
--- src/send.rt:400:13
 cast-tell : tie.Need-cast-tell
 cast-tell c = search needs
 
--- src/send.rt:400:13
 add-tell : tie.Need-add-tell
 add-tell c = search needs
 
--- src/send.rt:401:13
 refused-orders-requires : tie.Need-refused-orders-requires
 refused-orders-requires c κs = search needs
 
--- src/send.rt:397:9
 tell-requires : tie.Need-tell-requires
 tell-requires c κs = c .before .before .before .before .before .before .before .before .before .before .before .before .before .before .before .before .before .before .before .before .before .before .before .before .before .before .before .before .before .before .before .before .before .before .pre .4
 
--- src/send.rt:404:9
 same-length : tie.Need-same-length
 same-length c = c .before .before .before .before .before .before .state2 .given ∙ c .before .before .before .before .before .before .before .before .before .before .before .before .before .before .before .before .before .before .before .before .before .before .before .before .before .before .before .before .before .state .given
 
--- src/send.rt:404:9
 same-length-2 : tie.Need-same-length-2
 same-length-2 c = search needs
 
--- src/send.rt:404:9
 same-length-3 : tie.Need-same-length-3
 same-length-3 c = search needs
 
--- src/send.rt:404:9
 same-length-4 : tie.Need-same-length-4
 same-length-4 c = search needs
 
--- src/send.rt:404:9
 returns : tie.Need-returns
 returns c =
     let d = c .before .before .before .before .before .before .before .before .before .before in
@@ -107,35 +74,27 @@ returns c =
     let spares = spares-sent (a .state .now) _ m s b (p .2) (p .3) (e .before .timing-at .ensures) packets (e .before .before .before .marks-at .ensures) (e .encode-spares .ensures .1) in
     sends-refused (a .state .now) _ m s (a .now-ms) (a .lease-expired) (a .lanes .now) b spares (d .lanes-taken .result) (d .lanes-taken .ensures) (c .before .before .before .before .before .before .before .before .before .if1 .taken) (c .before .before .before .before .before .before .before .exchange-refused .ensures) (c .before .before .before .refused-orders .ensures) (c .before .before .tell .ensures)
 
--- src/send.rt:406:5
 frame-started-requires : tie.Need-frame-started-requires
 frame-started-requires c κs = c .before .before .before .before .before .before .before .before .before .before .before .before .before .before .before .before .before .before .before .before .before .state .given ∙ c .before .before .before .before .before .before .before .before .before .before .before .before .before .before .before .before .before .before .before .before .before .before .before .before .before .before .before .before .before .pre .0
 
--- src/send.rt:407:15
 sent-event-requires : tie.Need-sent-event-requires
 sent-event-requires c κs = search needs
 
--- src/send.rt:407:5
 tell-requires-2 : tie.Need-tell-requires-2
 tell-requires-2 c κs = c .before .before .before .before .before .before .before .before .before .before .before .before .before .before .before .before .before .before .before .before .before .before .before .before .before .before .before .before .before .before .before .before .before .before .pre .4
 
--- src/send.rt:376:1
 same-length-5 : tie.Need-same-length-5
 same-length-5 c = c .before .before .before .before .before .before .state3 .given ∙ c .before .before .before .before .before .before .before .before .before .before .before .before .before .before .before .before .before .before .before .before .before .before .before .before .before .before .before .before .before .state .given
 
--- src/send.rt:376:1
 same-length-6 : tie.Need-same-length-6
 same-length-6 c = search needs
 
--- src/send.rt:376:1
 same-length-7 : tie.Need-same-length-7
 same-length-7 c = search needs
 
--- src/send.rt:376:1
 same-length-8 : tie.Need-same-length-8
 same-length-8 c = search needs
 
--- src/send.rt:376:1
 returns-2 : tie.Need-returns-2
 returns-2 c =
     let d = c .before .before .before .before .before .before .before .before .before .before in

@@ -6,105 +6,76 @@ use Rattle.bank_slots_spec.proofs.SendMoves.{run-next}
 use borrow.Author.Needs.{needs}
 use Rattle.bank_slots.proofs.send.step_run.Statement.{statement}
 use Rattle.bank_slots.proofs.send.step_run.Tie as tie
-use Rattle.bank_slots.proofs.send.step_run.Reads as reads
-use Rattle.bank_slots.proofs.send.step_run.Lts as lts
-use Rattle.bank_slots.proofs.send.clear_run.Reads as clear-run-reads
-use Rattle.bank_slots.proofs.send.put_run.Reads as put-run-reads
-use Rattle.dshot.proofs.DshotCommandSequence.next_value.Reads as next-value-reads
 
--- src/send.rt:113:19
 slice-read-motor : tie.Need-slice-read-motor
 slice-read-motor c = search needs
 
--- src/send.rt:113:19
 sub-motor : tie.Need-sub-motor
 sub-motor c = search needs
 
--- src/send.rt:113:17
 cast-motor : tie.Need-cast-motor
 cast-motor c = search needs
 
--- src/send.rt:115:26
 add-t12 : tie.Need-add-t12
 add-t12 c = search needs
 
--- src/send.rt:115:20
 mul-t13 : tie.Need-mul-t13
 mul-t13 c = search needs
 
--- src/send.rt:115:20
 slice-read-t9 : tie.Need-slice-read-t9
 slice-read-t9 c = search needs
 
--- src/send.rt:115:42
 add-t15 : tie.Need-add-t15
 add-t15 c = search needs
 
--- src/send.rt:115:36
 mul-t16 : tie.Need-mul-t16
 mul-t16 c = search needs
 
--- src/send.rt:115:36
 slice-read-t11 : tie.Need-slice-read-t11
 slice-read-t11 c = search needs
 
--- src/send.rt:116:23
 add-t19 : tie.Need-add-t19
 add-t19 c = search needs
 
--- src/send.rt:116:17
 mul-t20 : tie.Need-mul-t20
 mul-t20 c = search needs
 
--- src/send.rt:116:17
 slice-read-t10 : tie.Need-slice-read-t10
 slice-read-t10 c = search needs
 
--- src/send.rt:116:16
 cast-t23 : tie.Need-cast-t23
 cast-t23 c = search needs
 
--- src/send.rt:117:30
 add-t24 : tie.Need-add-t24
 add-t24 c = search needs
 
--- src/send.rt:117:24
 mul-t25 : tie.Need-mul-t25
 mul-t25 c = search needs
 
--- src/send.rt:117:24
 slice-read-t27 : tie.Need-slice-read-t27
 slice-read-t27 c = search needs
 
--- src/send.rt:117:23
 cast-t29 : tie.Need-cast-t29
 cast-t29 c = search needs
 
--- src/send.rt:119:9
 next-value-requires : tie.Need-next-value-requires
 next-value-requires c κs = search needs
 
--- src/send.rt:123:29
 enum-known-value : tie.Need-enum-known-value
 enum-known-value c = search needs
 
--- src/send.rt:124:13
 put-run-requires : tie.Need-put-run-requires
 put-run-requires c κs = search needs
 
--- src/send.rt:128:23
 enum-told : tie.Need-enum-told
 enum-told c = search needs
 
--- src/send.rt:128:13
 clear-run-requires : tie.Need-clear-run-requires
 clear-run-requires c κs = search needs
 
--- src/send.rt:107:1
 same-length : tie.Need-same-length
 same-length c = search needs
 
--- src/send.rt:107:1
 returns : tie.Need-returns
 returns c =
     let a = c .before .before .before .before .before .before .before .before .before .before .before .before .before .before .before in
@@ -112,11 +83,9 @@ returns c =
     let s = run-next (a .args .state .now) (a .pre .1) (nextOf (n .result)) (n .ensures) (ap commandOf (c .before .before .before .before .before .value .given .1)) (c .before .before .put-run .ensures) in
     (omega arith, (s .0, s .1))
 
--- src/send.rt:107:1
 same-length-2 : tie.Need-same-length-2
 same-length-2 c = search needs
 
--- src/send.rt:107:1
 returns-2 : tie.Need-returns-2
 returns-2 c =
     let a = c .before .before .before .before .before .before .before .before .before .before .before .before .before .before in

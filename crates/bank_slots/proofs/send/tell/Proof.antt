@@ -9,126 +9,94 @@ use lib.ListN.{length-set}
 use borrow.Author.Needs.{needs}
 use Rattle.bank_slots.proofs.send.tell.Statement.{statement}
 use Rattle.bank_slots.proofs.send.tell.Tie as tie
-use Rattle.bank_slots.proofs.send.tell.Reads as reads
-use Rattle.bank_slots.proofs.send.tell.Lts as lts
 
--- src/send.rt:349:5
 slice-write-out : tie.Need-slice-write-out
 slice-write-out c = search needs
 
--- src/send.rt:350:5
 slice-write-out-2 : tie.Need-slice-write-out-2
 slice-write-out-2 c = simp length-set (omega arith)
 
--- src/send.rt:351:14
 array-read-out : tie.Need-array-read-out
 array-read-out c = search needs
 
--- src/send.rt:351:5
 slice-write-out-3 : tie.Need-slice-write-out-3
 slice-write-out-3 c = simp length-set (omega arith)
 
--- src/send.rt:352:14
 array-read-out-2 : tie.Need-array-read-out-2
 array-read-out-2 c = search needs
 
--- src/send.rt:352:5
 slice-write-out-4 : tie.Need-slice-write-out-4
 slice-write-out-4 c = simp length-set (omega arith)
 
--- src/send.rt:353:14
 array-read-out-3 : tie.Need-array-read-out-3
 array-read-out-3 c = search needs
 
--- src/send.rt:353:5
 slice-write-out-5 : tie.Need-slice-write-out-5
 slice-write-out-5 c = simp length-set (omega arith)
 
--- src/send.rt:354:14
 array-read-out-4 : tie.Need-array-read-out-4
 array-read-out-4 c = search needs
 
--- src/send.rt:354:5
 slice-write-out-6 : tie.Need-slice-write-out-6
 slice-write-out-6 c = simp length-set (omega arith)
 
--- src/send.rt:355:14
 array-read-out-5 : tie.Need-array-read-out-5
 array-read-out-5 c = search needs
 
--- src/send.rt:355:5
 slice-write-out-7 : tie.Need-slice-write-out-7
 slice-write-out-7 c = simp length-set (omega arith)
 
--- src/send.rt:356:14
 array-read-out-6 : tie.Need-array-read-out-6
 array-read-out-6 c = search needs
 
--- src/send.rt:356:5
 slice-write-out-8 : tie.Need-slice-write-out-8
 slice-write-out-8 c = simp length-set (omega arith)
 
--- src/send.rt:357:14
 array-read-out-7 : tie.Need-array-read-out-7
 array-read-out-7 c = search needs
 
--- src/send.rt:357:5
 slice-write-out-9 : tie.Need-slice-write-out-9
 slice-write-out-9 c = simp length-set (omega arith)
 
--- src/send.rt:358:14
 array-read-out-8 : tie.Need-array-read-out-8
 array-read-out-8 c = search needs
 
--- src/send.rt:358:5
 slice-write-out-10 : tie.Need-slice-write-out-10
 slice-write-out-10 c = simp length-set (omega arith)
 
--- src/send.rt:359:15
 array-read-out-9 : tie.Need-array-read-out-9
 array-read-out-9 c = search needs
 
--- src/send.rt:359:5
 slice-write-out-11 : tie.Need-slice-write-out-11
 slice-write-out-11 c = simp length-set (omega arith)
 
--- src/send.rt:360:15
 array-read-out-10 : tie.Need-array-read-out-10
 array-read-out-10 c = search needs
 
--- src/send.rt:360:5
 slice-write-out-12 : tie.Need-slice-write-out-12
 slice-write-out-12 c = simp length-set (omega arith)
 
--- src/send.rt:361:15
 array-read-out-11 : tie.Need-array-read-out-11
 array-read-out-11 c = search needs
 
--- src/send.rt:361:5
 slice-write-out-13 : tie.Need-slice-write-out-13
 slice-write-out-13 c = simp length-set (omega arith)
 
--- src/send.rt:362:15
 array-read-out-12 : tie.Need-array-read-out-12
 array-read-out-12 c = search needs
 
--- src/send.rt:362:5
 slice-write-out-14 : tie.Need-slice-write-out-14
 slice-write-out-14 c = simp length-set (omega arith)
 
--- src/send.rt:363:15
 array-read-out-13 : tie.Need-array-read-out-13
 array-read-out-13 c = search needs
 
--- src/send.rt:363:5
 slice-write-out-15 : tie.Need-slice-write-out-15
 slice-write-out-15 c = simp length-set (omega arith)
 
--- src/send.rt:345:1
 same-length : tie.Need-same-length
 same-length c = simp length-set
 
--- src/send.rt:345:1
 returns : tie.Need-returns
 unfolding tabulate
 returns c = let a = c .args in

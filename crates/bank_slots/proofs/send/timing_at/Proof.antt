@@ -4,26 +4,19 @@ use Rattle.bank_slots_spec.specs.Layout.{load}
 use borrow.Author.Needs.{needs}
 use Rattle.bank_slots.proofs.send.timing_at.Statement.{statement}
 use Rattle.bank_slots.proofs.send.timing_at.Tie as tie
-use Rattle.bank_slots.proofs.send.timing_at.Reads as reads
-use Rattle.bank_slots.proofs.send.timing_at.Lts as lts
 
--- src/send.rt:222:14
 shared-slice-read-t3 : tie.Need-shared-slice-read-t3
 shared-slice-read-t3 c = search needs
 
--- src/send.rt:223:20
 shared-slice-read-t5 : tie.Need-shared-slice-read-t5
 shared-slice-read-t5 c = search needs
 
--- src/send.rt:224:19
 shared-slice-read-t7 : tie.Need-shared-slice-read-t7
 shared-slice-read-t7 c = search needs
 
--- src/send.rt:225:27
 shared-slice-read-t9 : tie.Need-shared-slice-read-t9
 shared-slice-read-t9 c = search needs
 
--- src/send.rt:217:1
 returns : tie.Need-returns
 unfolding load
 returns c = refl

@@ -7,46 +7,33 @@ use Rattle.bank_slots_spec.specs.Layout.{bit}
 use borrow.Author.Needs.{needs}
 use Rattle.bank_slots.proofs.send.turn_mark.Statement.{statement}
 use Rattle.bank_slots.proofs.send.turn_mark.Tie as tie
-use Rattle.bank_slots.proofs.send.turn_mark.Reads as reads
-use Rattle.bank_slots.proofs.send.turn_mark.Lts as lts
-use Rattle.bank_slots.proofs.memory.bit.Reads as bit-reads
-use Rattle.bank_slots.proofs.memory.flag.Reads as flag-reads
 
--- src/send.rt:268:25
 mul-flag : tie.Need-mul-flag
 mul-flag c = search needs
 
--- src/send.rt:268:25
 slice-read-flag : tie.Need-slice-read-flag
 slice-read-flag c = search needs
 
--- src/send.rt:268:13
 flag-requires : tie.Need-flag-requires
 flag-requires c κs = search needs
 
--- src/send.rt:269:20
 bit-requires : tie.Need-bit-requires
 bit-requires c κs = search needs
 
--- src/send.rt:269:9
 mul-state : tie.Need-mul-state
 mul-state c = search needs
 
--- src/send.rt:269:9
 slice-write-state : tie.Need-slice-write-state
 slice-write-state c = search needs
 
--- src/send.rt:263:1
 same-length : tie.Need-same-length
 same-length c = search needs
 
--- src/send.rt:263:1
 returns : tie.Need-returns
 returns c =
     let a = c .before .before .before .before .before .args in
     on _ _ (c .before .before .before .if1 .taken) (ap (set (a .state .now) (a .k)) (c .bit .ensures ∙ ap (λ (m : Bool). bit (not m)) (c .before .flag .ensures)))
 
--- src/send.rt:263:1
 returns-2 : tie.Need-returns-2
 returns-2 c = off _ _ (c .if1 .left) refl
 

@@ -4,50 +4,37 @@ use Rattle.bank_slots_spec.specs.Layout.{load}
 use borrow.Author.Needs.{needs}
 use Rattle.bank_slots.proofs.send.values_at.Statement.{statement}
 use Rattle.bank_slots.proofs.send.values_at.Tie as tie
-use Rattle.bank_slots.proofs.send.values_at.Reads as reads
-use Rattle.bank_slots.proofs.send.values_at.Lts as lts
 
--- src/send.rt:158:9
 shared-slice-read-t3 : tie.Need-shared-slice-read-t3
 shared-slice-read-t3 c = search needs
 
--- src/send.rt:159:15
 add-t4 : tie.Need-add-t4
 add-t4 c = search needs
 
--- src/send.rt:159:9
 mul-t5 : tie.Need-mul-t5
 mul-t5 c = search needs
 
--- src/send.rt:159:9
 shared-slice-read-t7 : tie.Need-shared-slice-read-t7
 shared-slice-read-t7 c = search needs
 
--- src/send.rt:160:15
 add-t8 : tie.Need-add-t8
 add-t8 c = search needs
 
--- src/send.rt:160:9
 mul-t9 : tie.Need-mul-t9
 mul-t9 c = search needs
 
--- src/send.rt:160:9
 shared-slice-read-t11 : tie.Need-shared-slice-read-t11
 shared-slice-read-t11 c = search needs
 
--- src/send.rt:161:15
 add-t12 : tie.Need-add-t12
 add-t12 c = search needs
 
--- src/send.rt:161:9
 mul-t13 : tie.Need-mul-t13
 mul-t13 c = search needs
 
--- src/send.rt:161:9
 shared-slice-read-t15 : tie.Need-shared-slice-read-t15
 shared-slice-read-t15 c = search needs
 
--- src/send.rt:153:1
 returns : tie.Need-returns
 unfolding load
 returns c = refl

@@ -5,19 +5,13 @@ use Rattle.bank_slots_spec.proofs.ServiceMoves.{busy-skip-counted}
 use borrow.Author.Needs.{needs}
 use Rattle.bank_slots.proofs.service.count_busy_skip.Statement.{statement}
 use Rattle.bank_slots.proofs.service.count_busy_skip.Tie as tie
-use Rattle.bank_slots.proofs.service.count_busy_skip.Reads as reads
-use Rattle.bank_slots.proofs.service.count_busy_skip.Lts as lts
-use Rattle.bank_slots.proofs.memory.bump.Reads as bump-reads
 
--- src/service.rt:86:5
 bump-requires : tie.Need-bump-requires
 bump-requires c κs = search needs
 
--- src/service.rt:82:1
 same-length : tie.Need-same-length
 same-length c = search needs
 
--- src/service.rt:82:1
 returns : tie.Need-returns
 returns c =
     let a = c .before .before .before .before .before in

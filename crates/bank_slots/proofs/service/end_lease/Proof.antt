@@ -6,28 +6,19 @@ use Rattle.bank_slots_spec.proofs.ServiceMoves.{lease-lasts, lease-ended}
 use borrow.Author.Needs.{needs}
 use Rattle.bank_slots.proofs.service.end_lease.Statement.{statement}
 use Rattle.bank_slots.proofs.service.end_lease.Tie as tie
-use Rattle.bank_slots.proofs.service.end_lease.Reads as reads
-use Rattle.bank_slots.proofs.service.end_lease.Lts as lts
-use Rattle.bank_slots.proofs.memory.bump.Reads as bump-reads
-use Rattle.bank_slots.proofs.steps.stop.Reads as stop-reads
 
--- src/service.rt:76:9
 returns : tie.Need-returns
 returns c = lease-lasts (c .before .before .args .expired) (not-true _ (c .if1 .taken))
 
--- src/service.rt:78:5
 stop-requires : tie.Need-stop-requires
 stop-requires c κs = search needs
 
--- src/service.rt:79:5
 bump-requires : tie.Need-bump-requires
 bump-requires c κs = search needs
 
--- src/service.rt:71:1
 same-length : tie.Need-same-length
 same-length c = search needs
 
--- src/service.rt:71:1
 returns-2 : tie.Need-returns-2
 returns-2 c =
     let a = c .before .before .before .before .before .before .before .before .before .before in

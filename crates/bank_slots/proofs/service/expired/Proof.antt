@@ -7,30 +7,21 @@ use Rattle.bank_slots_spec.proofs.ServiceMoves.{no-lease, lease-over}
 use borrow.Author.Needs.{needs}
 use Rattle.bank_slots.proofs.service.expired.Statement.{statement}
 use Rattle.bank_slots.proofs.service.expired.Tie as tie
-use Rattle.bank_slots.proofs.service.expired.Reads as reads
-use Rattle.bank_slots.proofs.service.expired.Lts as lts
-use Rattle.bank_slots.proofs.memory.long_at.Reads as long-at-reads
-use Rattle.std.proofs.num.wrapping_sub_u64.Reads as wrapping-sub-u64-reads
 
--- src/service.rt:64:9
 long-at-requires : tie.Need-long-at-requires
 long-at-requires c κs = search needs
 
--- src/service.rt:66:9
 returns : tie.Need-returns
 returns c =
     let a = c .before .before .before .args in
     no-lease (a .now-ms) (a .state .now) (sym (c .before .long-at .ensures) ∙ c .if1 .taken)
 
--- src/service.rt:68:40
 long-at-requires-2 : tie.Need-long-at-requires-2
 long-at-requires-2 c κs = search needs
 
--- src/service.rt:68:5
 wrapping-sub-u64-requires : tie.Need-wrapping-sub-u64-requires
 wrapping-sub-u64-requires c κs = search needs
 
--- src/service.rt:60:1
 returns-2 : tie.Need-returns-2
 returns-2 c =
     let a = c .before .before .before .before .before .args in

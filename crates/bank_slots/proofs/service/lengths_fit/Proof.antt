@@ -5,34 +5,26 @@ use Rattle.dshot_bank_spec.proofs.LaneLaws.{on, off}
 use borrow.Author.Needs.{needs}
 use Rattle.bank_slots.proofs.service.lengths_fit.Statement.{statement}
 use Rattle.bank_slots.proofs.service.lengths_fit.Tie as tie
-use Rattle.bank_slots.proofs.service.lengths_fit.Reads as reads
-use Rattle.bank_slots.proofs.service.lengths_fit.Lts as lts
 
--- src/service.rt:153:17
 mul-if1 : tie.Need-mul-if1
 mul-if1 c = search needs
 
--- src/service.rt:154:9
 returns : tie.Need-returns
 returns c =
     let a = c .before .args in
     off _ _ (sym (off _ _ (ne-eqb (a .first) 64 (c .if1 .taken)) refl)) refl
 
--- src/service.rt:156:18
 mul-if2 : tie.Need-mul-if2
 mul-if2 c = search needs
 
--- src/service.rt:157:9
 returns-2 : tie.Need-returns-2
 returns-2 c =
     let a = c .before .before .args in
     off _ _ (sym (on _ _ (eq-eqb (a .first) 64 (c .before .if1 .left)) (sym (ne-eqb (a .second) 64 (c .if2 .taken))))) refl
 
--- src/service.rt:159:17
 mul-result : tie.Need-mul-result
 mul-result c = search needs
 
--- src/service.rt:150:1
 returns-3 : tie.Need-returns-3
 returns-3 c =
     let a = c .before .before .args in

@@ -5,16 +5,6 @@ use Rattle.bank_slots_spec.proofs.ServiceMoves.{serve-faulted, serve-skips, ser
 use borrow.Author.Needs.{needs}
 use Rattle.bank_slots.proofs.service.serve.Statement.{statement}
 use Rattle.bank_slots.proofs.service.serve.Tie as tie
-use Rattle.bank_slots.proofs.service.serve.Reads as reads
-use Rattle.bank_slots.proofs.service.serve.Lts as lts
-use Rattle.bank_slots.proofs.memory.flag.Reads as flag-reads
-use Rattle.bank_slots.proofs.replies.read_replies.Reads as read-replies-reads
-use Rattle.bank_slots.proofs.send.send.Reads as send-reads
-use Rattle.bank_slots.proofs.service.end_lease.Reads as end-lease-reads
-use Rattle.bank_slots.proofs.service.expired.Reads as expired-reads
-use Rattle.bank_slots.proofs.service.serve_busy.Reads as serve-busy-reads
-use Rattle.bank_slots.proofs.service.tell_event.Reads as tell-event-reads
-use Rattle.bank_slots.proofs.steps.clear_sent.Reads as clear-sent-reads
 
 clear-sent-requires : tie.Need-clear-sent-requires
 clear-sent-requires c κs = search needs

@@ -6,82 +6,58 @@ use Rattle.bank_slots_spec.proofs.ServiceMoves.{busy-late, busy-expired, busy-b
 use borrow.Author.Needs.{needs}
 use Rattle.bank_slots.proofs.service.serve_busy.Statement.{statement}
 use Rattle.bank_slots.proofs.service.serve_busy.Tie as tie
-use Rattle.bank_slots.proofs.service.serve_busy.Reads as reads
-use Rattle.bank_slots.proofs.service.serve_busy.Lts as lts
-use Rattle.bank_slots.proofs.memory.long_at.Reads as long-at-reads
-use Rattle.bank_slots.proofs.send.tell.Reads as tell-reads
-use Rattle.bank_slots.proofs.service.count_busy_skip.Reads as count-busy-skip-reads
-use Rattle.bank_slots.proofs.service.tell_event.Reads as tell-event-reads
-use Rattle.bank_slots.proofs.service.time_out.Reads as time-out-reads
-use Rattle.dshot.proofs.command_lease_expired.Reads as command-lease-expired-reads
 
--- src/service.rt:110:5
 count-busy-skip-requires : tie.Need-count-busy-skip-requires
 count-busy-skip-requires c κs = search needs
 
--- src/service.rt:111:37
 long-at-requires : tie.Need-long-at-requires
 long-at-requires c κs = search needs
 
--- src/service.rt:111:8
 command-lease-expired-requires : tie.Need-command-lease-expired-requires
 command-lease-expired-requires c κs = search needs
 
--- src/service.rt:112:9
 time-out-requires : tie.Need-time-out-requires
 time-out-requires c κs = search needs
 
--- src/service.rt:113:9
 tell-requires : tie.Need-tell-requires
 tell-requires c κs = search needs
 
--- src/service.rt:114:9
 same-length : tie.Need-same-length
 same-length c = search needs
 
--- src/service.rt:114:9
 same-length-2 : tie.Need-same-length-2
 same-length-2 c = search needs
 
--- src/service.rt:114:9
 returns : tie.Need-returns
 returns c =
     let a = c .before .before .before .before .before .before .before .before .before .before .before .before .before .before .before .before .before .before .args in
     let late = sym (ap (λ (s : ℕ). leaseExpired s 1 (a .now-ms)) (c .before .before .before .before .before .before .before .before .before .before .long-at .ensures)) ∙ sym (c .before .before .before .before .before .before .before .before .before .command-lease-expired .ensures) ∙ c .before .before .before .before .before .before .before .before .if1 .taken in
     busy-late (a .now-ms) (c .before .before .before .before .before .before .before .before .before .before .before .before .before .before .count-busy-skip .ensures) (a .lease-expired) late (c .before .before .before .before .before .before .time-out .ensures) (c .before .before .tell .ensures)
 
--- src/service.rt:117:9
 tell-event-requires : tie.Need-tell-event-requires
 tell-event-requires c κs = search needs
 
--- src/service.rt:118:9
 same-length-3 : tie.Need-same-length-3
 same-length-3 c = search needs
 
--- src/service.rt:118:9
 same-length-4 : tie.Need-same-length-4
 same-length-4 c = search needs
 
--- src/service.rt:118:9
 returns-2 : tie.Need-returns-2
 returns-2 c =
     let a = c .before .before .before .before .before .before .before .before .before .before .before .before .before .before .before .args in
     let late = sym (ap (λ (s : ℕ). leaseExpired s 1 (a .now-ms)) (c .before .before .before .before .before .before .before .long-at .ensures)) ∙ sym (c .before .before .before .before .before .before .command-lease-expired .ensures) ∙ c .before .before .before .before .before .if1 .left in
     busy-expired (a .now-ms) (c .before .before .before .before .before .before .before .before .before .before .before .count-busy-skip .ensures) (a .lease-expired) late (c .before .before .before .before .if2 .taken) (c .before .before .tell-event .ensures)
 
--- src/service.rt:120:5
 tell-event-requires-2 : tie.Need-tell-event-requires-2
 tell-event-requires-2 c κs = search needs
 
--- src/service.rt:106:1
 same-length-5 : tie.Need-same-length-5
 same-length-5 c = search needs
 
--- src/service.rt:106:1
 same-length-6 : tie.Need-same-length-6
 same-length-6 c = search needs
 
--- src/service.rt:106:1
 returns-3 : tie.Need-returns-3
 returns-3 c =
     let a = c .before .before .before .before .before .before .before .before .before .before .before .before .before .before .before .args in

@@ -6,10 +6,6 @@ use Rattle.bank_slots_spec.proofs.ServiceMoves.{call-unfit, call-lanes, call-sh
 use borrow.Author.Needs.{needs}
 use Rattle.bank_slots.proofs.service.service.Statement.{statement}
 use Rattle.bank_slots.proofs.service.service.Tie as tie
-use Rattle.bank_slots.proofs.service.service.Reads as reads
-use Rattle.bank_slots.proofs.service.service.Lts as lts
-use Rattle.bank_slots.proofs.service.lengths_fit.Reads as lengths-fit-reads
-use Rattle.bank_slots.proofs.service.serve.Reads as serve-reads
 
 returns : tie.Need-returns
 returns c = let a = c .before .before .before .before .before .before .before .args in call-unfit (a .now-ms) (a .lanes .now) (a .captures .now) (a .first .now) (a .second .now) (a .bank .now) (a .out .now) (c .if1 .taken)

@@ -4,23 +4,16 @@ use Rattle.dshot_bank_spec.proofs.LaneLaws.{on, off}
 use borrow.Author.Needs.{needs}
 use Rattle.bank_slots.proofs.steps.bump_if.Statement.{statement}
 use Rattle.bank_slots.proofs.steps.bump_if.Tie as tie
-use Rattle.bank_slots.proofs.steps.bump_if.Reads as reads
-use Rattle.bank_slots.proofs.steps.bump_if.Lts as lts
-use Rattle.bank_slots.proofs.memory.bump.Reads as bump-reads
 
--- src/steps.rt:63:9
 bump-requires : tie.Need-bump-requires
 bump-requires c κs = search needs
 
--- src/steps.rt:58:1
 same-length : tie.Need-same-length
 same-length c = search needs
 
--- src/steps.rt:58:1
 returns : tie.Need-returns
 returns c = on _ _ (c .before .before .before .before .if1 .taken) (c .before .before .bump .ensures)
 
--- src/steps.rt:58:1
 returns-2 : tie.Need-returns-2
 returns-2 c = off _ _ (c .if1 .left) refl
 

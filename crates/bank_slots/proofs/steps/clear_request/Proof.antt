@@ -3,18 +3,13 @@ use Rattle.bank_slots_spec.proofs.FaultMoves.{request-cleared}
 use borrow.Author.Needs.{needs}
 use Rattle.bank_slots.proofs.steps.clear_request.Statement.{statement}
 use Rattle.bank_slots.proofs.steps.clear_request.Tie as tie
-use Rattle.bank_slots.proofs.steps.clear_request.Reads as reads
-use Rattle.bank_slots.proofs.steps.clear_request.Lts as lts
 
--- src/steps.rt:39:5
 slice-write-state : tie.Need-slice-write-state
 slice-write-state c = search needs
 
--- src/steps.rt:35:1
 same-length : tie.Need-same-length
 same-length c = search needs
 
--- src/steps.rt:35:1
 returns : tie.Need-returns
 returns c = request-cleared (c .args .state .now) (c .pre)
 

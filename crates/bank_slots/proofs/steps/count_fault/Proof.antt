@@ -4,27 +4,19 @@ use mathlib.Core.Path.{refl}
 use borrow.Author.Needs.{needs}
 use Rattle.bank_slots.proofs.steps.count_fault.Statement.{statement}
 use Rattle.bank_slots.proofs.steps.count_fault.Tie as tie
-use Rattle.bank_slots.proofs.steps.count_fault.Reads as reads
-use Rattle.bank_slots.proofs.steps.count_fault.Lts as lts
-use Rattle.bank_slots.proofs.steps.bump_if.Reads as bump-if-reads
 
--- src/steps.rt:71:17
 slice-read-first : tie.Need-slice-read-first
 slice-read-first c = search needs
 
--- src/steps.rt:72:5
 bump-if-requires : tie.Need-bump-if-requires
 bump-if-requires c κs = search needs
 
--- src/steps.rt:73:5
 bump-if-requires-2 : tie.Need-bump-if-requires-2
 bump-if-requires-2 c κs = search needs
 
--- src/steps.rt:67:1
 same-length : tie.Need-same-length
 same-length c = search needs
 
--- src/steps.rt:67:1
 returns : tie.Need-returns
 returns c = fault-counted _ _ _ (c .before .before .before .before .before .before .before .before .before .before .pre) _ (c .before .before .before .before .before .before .before .before .before .before .args .spurious) refl (c .before .before .before .before .before .before .bump-if .ensures) (c .before .before .bump-if2 .ensures)
 

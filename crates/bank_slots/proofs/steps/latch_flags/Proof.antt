@@ -5,30 +5,22 @@ use lib.ListN.{length-set}
 use borrow.Author.Needs.{needs}
 use Rattle.bank_slots.proofs.steps.latch_flags.Statement.{statement}
 use Rattle.bank_slots.proofs.steps.latch_flags.Tie as tie
-use Rattle.bank_slots.proofs.steps.latch_flags.Reads as reads
-use Rattle.bank_slots.proofs.steps.latch_flags.Lts as lts
 
--- src/steps.rt:80:5
 slice-write-state : tie.Need-slice-write-state
 slice-write-state c = search needs
 
--- src/steps.rt:81:5
 slice-write-state-2 : tie.Need-slice-write-state-2
 slice-write-state-2 c = simp length-set (omega arith)
 
--- src/steps.rt:82:5
 slice-write-state-3 : tie.Need-slice-write-state-3
 slice-write-state-3 c = simp length-set (omega arith)
 
--- src/steps.rt:83:5
 slice-write-state-4 : tie.Need-slice-write-state-4
 slice-write-state-4 c = simp length-set (omega arith)
 
--- src/steps.rt:76:1
 same-length : tie.Need-same-length
 same-length c = search needs
 
--- src/steps.rt:76:1
 returns : tie.Need-returns
 returns c = flags-latched (c .args .state .now) (c .pre)
 

@@ -5,94 +5,70 @@ use lib.ListN.{length-set}
 use borrow.Author.Needs.{needs}
 use Rattle.bank_slots.proofs.steps.stop.Statement.{statement}
 use Rattle.bank_slots.proofs.steps.stop.Tie as tie
-use Rattle.bank_slots.proofs.steps.stop.Reads as reads
-use Rattle.bank_slots.proofs.steps.stop.Lts as lts
 
--- src/steps.rt:46:5
 slice-write-state : tie.Need-slice-write-state
 slice-write-state c = search needs
 
--- src/steps.rt:47:11
 add-state : tie.Need-add-state
 add-state c = search needs
 
--- src/steps.rt:47:5
 mul-state : tie.Need-mul-state
 mul-state c = search needs
 
--- src/steps.rt:47:5
 slice-write-state-2 : tie.Need-slice-write-state-2
 slice-write-state-2 c = simp length-set (omega arith)
 
--- src/steps.rt:48:11
 add-state-2 : tie.Need-add-state-2
 add-state-2 c = search needs
 
--- src/steps.rt:48:5
 mul-state-2 : tie.Need-mul-state-2
 mul-state-2 c = search needs
 
--- src/steps.rt:48:5
 slice-write-state-3 : tie.Need-slice-write-state-3
 slice-write-state-3 c = simp length-set (omega arith)
 
--- src/steps.rt:49:11
 add-state-3 : tie.Need-add-state-3
 add-state-3 c = search needs
 
--- src/steps.rt:49:5
 mul-state-3 : tie.Need-mul-state-3
 mul-state-3 c = search needs
 
--- src/steps.rt:49:5
 slice-write-state-4 : tie.Need-slice-write-state-4
 slice-write-state-4 c = simp length-set (omega arith)
 
--- src/steps.rt:50:5
 slice-write-state-5 : tie.Need-slice-write-state-5
 slice-write-state-5 c = simp length-set (omega arith)
 
--- src/steps.rt:51:11
 add-state-4 : tie.Need-add-state-4
 add-state-4 c = search needs
 
--- src/steps.rt:51:5
 mul-state-4 : tie.Need-mul-state-4
 mul-state-4 c = search needs
 
--- src/steps.rt:51:5
 slice-write-state-6 : tie.Need-slice-write-state-6
 slice-write-state-6 c = simp length-set (omega arith)
 
--- src/steps.rt:52:11
 add-state-5 : tie.Need-add-state-5
 add-state-5 c = search needs
 
--- src/steps.rt:52:5
 mul-state-5 : tie.Need-mul-state-5
 mul-state-5 c = search needs
 
--- src/steps.rt:52:5
 slice-write-state-7 : tie.Need-slice-write-state-7
 slice-write-state-7 c = simp length-set (omega arith)
 
--- src/steps.rt:53:11
 add-state-6 : tie.Need-add-state-6
 add-state-6 c = search needs
 
--- src/steps.rt:53:5
 mul-state-6 : tie.Need-mul-state-6
 mul-state-6 c = search needs
 
--- src/steps.rt:53:5
 slice-write-state-8 : tie.Need-slice-write-state-8
 slice-write-state-8 c = simp length-set (omega arith)
 
--- src/steps.rt:42:1
 same-length : tie.Need-same-length
 same-length c = search needs
 
--- src/steps.rt:42:1
 returns : tie.Need-returns
 returns c = stopped (c .args .state .now) (c .pre)
 
