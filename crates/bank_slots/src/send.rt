@@ -21,6 +21,7 @@ use crate::memory::bump;
 use crate::memory::flag;
 use crate::memory::put_long;
 use crate::memory::put_word;
+use crate::steps::clear_run;
 use crate::steps::latch_fault;
 use dshot::ChecksumKind;
 use dshot::CommandValue;
@@ -79,17 +80,6 @@ const FAULT: u16 = 3;
 const START_ORDERS: [u16; 9] = [8, 9, 10, 11, 16, 17, 18, 19, 24];
 
 // ---- the run of commands
-
-fn clear_run(state: &mut [u16])
-    requires { ⌜ length (now state) ≡ slots ⌝ }
-    ensures { λ r. ⌜ Moves (onCore (withCommandSequence none)) (now (state .entry)) (now (state .exit)) ⌝ }
-{
-    state[RUN] = 0;
-    state[RUN + 1] = 0;
-    state[RUN + 2] = 0;
-    state[RUN + 3] = 0;
-    state[RUN + 4] = 0;
-}
 
 fn put_run(state: &mut [u16], motor: usize, run: DshotCommandSequence)
     requires { ⌜ (length (now state) ≡ slots) × (motor < 4) ⌝ }

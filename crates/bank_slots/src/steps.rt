@@ -1,7 +1,7 @@
 // Ported from crates/ferrowasp-stm32-critical/src/dshot_bank.rs of Eirik2020/ferro-wasp at commit 9cb8aca1a6, Copyright (c) 2026 Kaldstrand,
 // under the Apache License, Version 2.0 (see NOTICE). Changed: ported to Rattle, on a state in lent slots, with a promise for each step.
 //
-// The steps on a bank's state that several calls share: a stop, a cleared request, and a latched fault.
+// The steps on a bank's state that several calls share: a stop, a cleared request or run, and a latched fault.
 
 use crate::BUSY;
 use crate::DMA_FAULTS;
@@ -16,10 +16,12 @@ use crate::VALUES;
 use crate::WAITING;
 use crate::memory::bump;
 ghost use mathlib.Core.Path.{_≡_};
+ghost use mathlib.Core.Option.{none};
 ghost use Prim.Native.Nat.{_+_, _<_};
 ghost use lib.ListN.{length};
 ghost use Rattle.dshot_reply_spec.specs.Answer.{pick};
 ghost use Rattle.dshot_bank_spec.specs.Commands.{commandStop, clearRequestSent, cancelTelemetryRequest};
+ghost use Rattle.dshot_bank_spec.specs.With.{withCommandSequence};
 ghost use Rattle.dshot_bank_spec.specs.Send.{latchFault};
 ghost use Rattle.bank_slots_spec.specs.Layout.{slots};
 ghost use Rattle.bank_slots_spec.specs.Moves.{Moves, onCore};
@@ -37,6 +39,17 @@ pub(crate) fn clear_request(state: &mut [u16])
     ensures { λ r. ⌜ Moves (onCore cancelTelemetryRequest) (now (state .entry)) (now (state .exit)) ⌝ }
 {
     state[REQUEST] = 0;
+}
+
+pub(crate) fn clear_run(state: &mut [u16])
+    requires { ⌜ length (now state) ≡ slots ⌝ }
+    ensures { λ r. ⌜ Moves (onCore (withCommandSequence none)) (now (state .entry)) (now (state .exit)) ⌝ }
+{
+    state[RUN] = 0;
+    state[RUN + 1] = 0;
+    state[RUN + 2] = 0;
+    state[RUN + 3] = 0;
+    state[RUN + 4] = 0;
 }
 
 pub(crate) fn stop(state: &mut [u16])
@@ -87,13 +100,9 @@ fn clear_requests(state: &mut [u16])
     requires { ⌜ length (now state) ≡ slots ⌝ }
     ensures { λ r. ⌜ Moves (onCore requestsCleared) (now (state .entry)) (now (state .exit)) ⌝ }
 {
-    state[REQUEST] = 0;
-    state[SENT] = 0;
-    state[RUN] = 0;
-    state[RUN + 1] = 0;
-    state[RUN + 2] = 0;
-    state[RUN + 3] = 0;
-    state[RUN + 4] = 0;
+    clear_request(state);
+    clear_sent(state);
+    clear_run(state);
 }
 
 // The orders of a fault are for the caller.

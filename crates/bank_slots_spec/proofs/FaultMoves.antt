@@ -1,15 +1,16 @@
--- What the steps of a stop and of a latched fault write, and what that does to the bank in the slots.
+-- What the steps that calls share write, those of a stop, a run and a latched fault, and what that does to the bank in the slots.
 -- Assumes nothing.
 use mathlib.Core.Path.{_≡_, _∙_, refl, sym, ap}
 use mathlib.Core.Bool.{Bool, true, false, not}
 use mathlib.Core.List.{List, [], _∷_, _++_}
+use mathlib.Core.Option.{none}
 use Prim.Native.Nat.{ℕ, _+_}
 use lib.Dec.{eqb}
 use lib.ListN.{length}
 use Rattle.dshot_reply_spec.specs.Answer.{pick}
 use Rattle.dshot_bank_spec.specs.State.{Stats, Core, Bank}
 use Rattle.dshot_bank_spec.specs.Replies.{wrappingAdd}
-use Rattle.dshot_bank_spec.specs.With.{withDmaFaults, withSpuriousInterrupts, withStats, withCore}
+use Rattle.dshot_bank_spec.specs.With.{withDmaFaults, withSpuriousInterrupts, withCommandSequence, withStats, withCore}
 use Rattle.dshot_bank_spec.specs.Commands.{commandStop, clearRequestSent, cancelTelemetryRequest}
 use Rattle.dshot_bank_spec.specs.Send.{countFault, latchFault}
 use Rattle.bank_slots_spec.specs.Memory.{Row, _holds_, at, write, over, word, wordRows}
@@ -29,8 +30,8 @@ stopRows = zeros VALUES ++ zeros LEASE-OVER
 abbrev pub latchRows : List Row
 latchRows = (FAULTED holds 1) ∷ (BUSY holds 0) ∷ (RECEIVING holds 0) ∷ (WAITING holds 0) ∷ []
 
-abbrev pub clearRows : List Row
-clearRows = (REQUEST holds 0) ∷ (SENT holds 0) ∷ (RUN holds 0) ∷ (RUN + 1 holds 0) ∷ (RUN + 2 holds 0) ∷ (RUN + 3 holds 0) ∷ (RUN + 4 holds 0) ∷ []
+abbrev runCleared : List Row
+runCleared = (RUN holds 0) ∷ (RUN + 1 holds 0) ∷ (RUN + 2 holds 0) ∷ (RUN + 3 holds 0) ∷ (RUN + 4 holds 0) ∷ []
 
 module _ (xs : List ℕ) (n : length xs ≡ slots) where
   pub sent-cleared : Moves (onCore clearRequestSent) xs (write ((SENT holds 0) ∷ []) xs)
@@ -41,15 +42,15 @@ module _ (xs : List ℕ) (n : length xs ≡ slots) where
   unfolding cancelTelemetryRequest
   request-cleared = moves-write ((REQUEST holds 0) ∷ []) xs n refl refl (λ w. (w .0, (w .1 .0, ((refl, w .1 .1 .0 .1, w .1 .1 .0 .2), w .1 .1 .1))))
 
+  pub run-cleared : Moves (onCore (withCommandSequence none)) xs (write runCleared xs)
+  run-cleared = moves-write runCleared xs n refl refl (λ w. (w .0, (w .1 .0, ((w .1 .1 .0 .0, w .1 .1 .0 .1, refl), w .1 .1 .1))))
+
   pub stopped : Moves (onCore (commandStop 4)) xs (write stopRows xs)
   unfolding commandStop
   stopped = moves-write stopRows xs n refl refl (λ w. w)
 
   pub flags-latched : Moves (onCore flagsLatched) xs (write latchRows xs)
   flags-latched = moves-write latchRows xs n refl refl (λ w. ((refl, refl, w .0 .2, refl, refl, w .0 .5), w .1))
-
-  pub requests-cleared : Moves (onCore requestsCleared) xs (write clearRows xs)
-  requests-cleared = moves-write clearRows xs n refl refl (λ w. (w .0, (w .1 .0, ((refl, refl, refl), w .1 .1 .1))))
 
 -- the two counts of a fault
 abbrev dmaCounted : Core → Core
@@ -92,6 +93,11 @@ module _ (xs ys zs : List ℕ) (n : length xs ≡ slots) where
       let two : Moves (onCore (corePick spurious spuriousCounted)) ys zs = moves-at (sym q) (bumped-if spuriousCounted spurious SPURIOUS ys (counted ys l SPURIOUS withSpuriousInterrupts (λ (s : Stats). s .spuriousInterrupts) refl (λ v. refl) refl (λ w. w))) in
       moves-as (moves-then one two) (ap (λ (b : Bool). onCore (λ (c : Core). corePick spurious spuriousCounted (corePick b dmaCounted c)) (load xs)) (t ∙ sym (twice (eqb (at xs FAULTED) 0)))
       ∙ ap (λ (c : Core). withCore c (load xs)) (fault-counts (load xs .core .frame .faulted) spurious (load xs .core) refl))
+
+-- what is asked for cleared: the pending request, the one that was sent, and the run
+pub requests-cleared : {us vs ws xs : List ℕ} → Moves (onCore cancelTelemetryRequest) us vs → Moves (onCore clearRequestSent) vs ws → Moves (onCore (withCommandSequence none)) ws xs → Moves (onCore requestsCleared) us xs
+unfolding cancelTelemetryRequest clearRequestSent
+requests-cleared a b c = moves-as (moves-then a (moves-then b c)) refl
 
 -- the four parts of a latched fault
 pub fault-latched : {us vs ws xs ys : List ℕ} (spurious : Bool) → Moves (onCore (faultCounted spurious)) us vs → Moves (onCore flagsLatched) vs ws → Moves (onCore requestsCleared) ws xs → Moves (onCore (commandStop 4)) xs ys

@@ -39,13 +39,7 @@ use Rattle.bank_slots_spec.proofs.FieldLaws.{flag-back, flag-written, l
 
 -- ---- the run of commands
 
-abbrev runCleared : List Row
-runCleared = (RUN holds 0) ∷ (RUN + 1 holds 0) ∷ (RUN + 2 holds 0) ∷ (RUN + 3 holds 0) ∷ (RUN + 4 holds 0) ∷ []
-
 module _ (xs : List ℕ) (n : length xs ≡ slots) where
-  pub run-cleared : Moves (onCore (withCommandSequence none)) xs (write runCleared xs)
-  run-cleared = moves-write runCleared xs n refl refl (λ w. (w .0, (w .1 .0, ((w .1 .1 .0 .0, w .1 .1 .0 .1, refl), w .1 .1 .1))))
-
   pub run-put : (motor : ℕ) (s : CommandRun) → motor < 4 → length (s .commands) ≡ 2 → s .index < 256 → s .repeatsLeft < 256
       → Moves (onCore (queued motor s)) xs (write (runRows (some (record { motor = motor; sequence = s }))) xs)
   run-put motor s h two index left =

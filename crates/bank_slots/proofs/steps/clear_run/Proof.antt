@@ -1,70 +1,53 @@
 -- The slots of a run cleared.
-use Rattle.bank_slots_spec.proofs.SendMoves.{run-cleared}
+use Rattle.bank_slots_spec.proofs.FaultMoves.{run-cleared}
 use native.Mathlib.Omega.{arith}
 use lib.ListN.{length-set}
 use borrow.Author.Needs.{needs}
-use Rattle.bank_slots.proofs.send.clear_run.Statement.{statement}
-use Rattle.bank_slots.proofs.send.clear_run.Tie as tie
-use Rattle.bank_slots.proofs.send.clear_run.Reads as reads
-use Rattle.bank_slots.proofs.send.clear_run.Lts as lts
+use Rattle.bank_slots.proofs.steps.clear_run.Statement.{statement}
+use Rattle.bank_slots.proofs.steps.clear_run.Tie as tie
 
--- src/send.rt:87:5
 slice-write-state : tie.Need-slice-write-state
 slice-write-state c = search needs
 
--- src/send.rt:88:11
 add-state : tie.Need-add-state
 add-state c = search needs
 
--- src/send.rt:88:5
 mul-state : tie.Need-mul-state
 mul-state c = search needs
 
--- src/send.rt:88:5
 slice-write-state-2 : tie.Need-slice-write-state-2
 slice-write-state-2 c = simp length-set (omega arith)
 
--- src/send.rt:89:11
 add-state-2 : tie.Need-add-state-2
 add-state-2 c = search needs
 
--- src/send.rt:89:5
 mul-state-2 : tie.Need-mul-state-2
 mul-state-2 c = search needs
 
--- src/send.rt:89:5
 slice-write-state-3 : tie.Need-slice-write-state-3
 slice-write-state-3 c = simp length-set (omega arith)
 
--- src/send.rt:90:11
 add-state-3 : tie.Need-add-state-3
 add-state-3 c = search needs
 
--- src/send.rt:90:5
 mul-state-3 : tie.Need-mul-state-3
 mul-state-3 c = search needs
 
--- src/send.rt:90:5
 slice-write-state-4 : tie.Need-slice-write-state-4
 slice-write-state-4 c = simp length-set (omega arith)
 
--- src/send.rt:91:11
 add-state-4 : tie.Need-add-state-4
 add-state-4 c = search needs
 
--- src/send.rt:91:5
 mul-state-4 : tie.Need-mul-state-4
 mul-state-4 c = search needs
 
--- src/send.rt:91:5
 slice-write-state-5 : tie.Need-slice-write-state-5
 slice-write-state-5 c = simp length-set (omega arith)
 
--- src/send.rt:83:1
 same-length : tie.Need-same-length
 same-length c = search needs
 
--- src/send.rt:83:1
 returns : tie.Need-returns
 returns c = run-cleared (c .args .state .now) (c .pre)
 
