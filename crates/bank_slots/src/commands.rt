@@ -22,10 +22,13 @@ use crate::memory::put_long;
 use crate::memory::zero;
 use crate::steps::clear_request;
 use crate::steps::clear_sent;
+use crate::steps::put_run;
 use crate::steps::stop;
+use dshot::DshotCommandSequence;
+use dshot::at_most;
 ghost use mathlib.Core.Path.{_≡_};
 ghost use mathlib.Core.Bool.{true};
-ghost use Prim.Native.Nat.{_<_, min};
+ghost use Prim.Native.Nat.{_<_};
 ghost use lib.Dec.{ltb};
 ghost use lib.ListN.{length};
 ghost use Rattle.dshot_reply_spec.specs.Answer.{pick};
@@ -167,21 +170,17 @@ fn is_running(bank: &[u16]) -> bool
     any_above(&bank[VALUES..VALUES + LANES], 0)
 }
 
-fn least(x: u16, most: u16) -> u16
-    ensures { λ r. ⌜ r ≡ min x most ⌝ }
-{
-    if most < x { most } else { x }
-}
-
+// An index above 255 is spent, as 255 is, and of the last slot the low eight bits count.
 fn queue(bank: &mut [u16], motor: usize, sequence: &[u16])
     requires { ⌜ (length (now bank) ≡ slots) × (length (now sequence) ≡ 4) × (motor < 4) ⌝ }
     ensures { λ r. ⌜ Moves (onCore (queued motor (runGiven (now (sequence .entry))))) (now (bank .entry)) (now (bank .exit)) ⌝ }
 {
-    bank[RUN] = motor as u16 + 1;
-    bank[RUN + 1] = sequence[0];
-    bank[RUN + 2] = sequence[1];
-    bank[RUN + 3] = least(sequence[2], 255);
-    bank[RUN + 4] = sequence[3] % 256;
+    let run = DshotCommandSequence {
+        commands: [sequence[0], sequence[1]],
+        index: at_most(sequence[2], 255) as u8,
+        repeats_left: (sequence[3] % 256) as u8,
+    };
+    put_run(bank, motor, run);
 }
 
 // Queues a run of special-command frames for one motor, such as a spin direction change and save: the run in four slots.

@@ -23,6 +23,7 @@ use crate::memory::put_long;
 use crate::memory::put_word;
 use crate::steps::clear_run;
 use crate::steps::latch_fault;
+use crate::steps::put_run;
 use dshot::ChecksumKind;
 use dshot::CommandValue;
 use dshot::DshotCommandSequence;
@@ -38,7 +39,7 @@ ghost use mathlib.Core.Option.{none};
 ghost use Prim.Native.Nat.{_+_, _*_, _<_};
 ghost use lib.ListN.{length, set, replicate};
 ghost use Rattle.dshot_reply_spec.specs.Answer.{pick};
-ghost use Rattle.dshot.specs.Answers.{kindOf, laneOf, timingOf, runOf};
+ghost use Rattle.dshot.specs.Answers.{kindOf, laneOf, timingOf};
 ghost use Rattle.dshot_bank_spec.specs.Lanes.{position};
 ghost use Rattle.dshot_bank_spec.specs.State.{Core, Bank, Buffers};
 ghost use Rattle.dshot_bank_spec.specs.Order.{refusedOrders};
@@ -52,7 +53,7 @@ ghost use Rattle.bank_slots_spec.specs.Layout as Layout;
 ghost use Rattle.bank_slots_spec.specs.Moves.{Moves, onCore};
 ghost use Rattle.bank_slots_spec.specs.Handles.{Serves};
 ghost use Rattle.bank_slots_spec.specs.Outs.{codes, taken};
-ghost use Rattle.bank_slots_spec.specs.Parts.{queued, runStepped, marksTurned, carriedBy, requestCarried, inFlight};
+ghost use Rattle.bank_slots_spec.specs.Parts.{runStepped, marksTurned, carriedBy, requestCarried, inFlight};
 ghost use Rattle.bank_slots.specs.Frames.{motorCommandOf, OnLane, Sets};
 
 // The next special-command frame.
@@ -80,18 +81,6 @@ const FAULT: u16 = 3;
 const START_ORDERS: [u16; 9] = [8, 9, 10, 11, 16, 17, 18, 19, 24];
 
 // ---- the run of commands
-
-fn put_run(state: &mut [u16], motor: usize, run: DshotCommandSequence)
-    requires { ⌜ (length (now state) ≡ slots) × (motor < 4) ⌝ }
-    ensures { λ r. ⌜ Moves (onCore (queued motor (runOf run))) (now (state .entry)) (now (state .exit)) ⌝ }
-{
-    let commands = run.commands;
-    state[RUN] = motor as u16 + 1;
-    state[RUN + 1] = commands[0];
-    state[RUN + 2] = commands[1];
-    state[RUN + 3] = run.index as u16;
-    state[RUN + 4] = run.repeats_left as u16;
-}
 
 // The next command of a run, which is stepped; a spent run is cleared.
 fn step_run(state: &mut [u16]) -> NextFrame

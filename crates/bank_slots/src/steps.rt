@@ -1,7 +1,7 @@
 // Ported from crates/ferrowasp-stm32-critical/src/dshot_bank.rs of Eirik2020/ferro-wasp at commit 9cb8aca1a6, Copyright (c) 2026 Kaldstrand,
 // under the Apache License, Version 2.0 (see NOTICE). Changed: ported to Rattle, on a state in lent slots, with a promise for each step.
 //
-// The steps on a bank's state that several calls share: a stop, a cleared request or run, and a latched fault.
+// The steps on a bank's state that several calls share: a stop, a run put or cleared, a cleared request, and a latched fault.
 
 use crate::BUSY;
 use crate::DMA_FAULTS;
@@ -15,17 +15,19 @@ use crate::SPURIOUS;
 use crate::VALUES;
 use crate::WAITING;
 use crate::memory::bump;
+use dshot::DshotCommandSequence;
 ghost use mathlib.Core.Path.{_≡_};
 ghost use mathlib.Core.Option.{none};
 ghost use Prim.Native.Nat.{_+_, _<_};
 ghost use lib.ListN.{length};
 ghost use Rattle.dshot_reply_spec.specs.Answer.{pick};
+ghost use Rattle.dshot.specs.Answers.{runOf};
 ghost use Rattle.dshot_bank_spec.specs.Commands.{commandStop, clearRequestSent, cancelTelemetryRequest};
 ghost use Rattle.dshot_bank_spec.specs.With.{withCommandSequence};
 ghost use Rattle.dshot_bank_spec.specs.Send.{latchFault};
 ghost use Rattle.bank_slots_spec.specs.Layout.{slots};
 ghost use Rattle.bank_slots_spec.specs.Moves.{Moves, onCore};
-ghost use Rattle.bank_slots_spec.specs.Parts.{bumped, faultCounted, flagsLatched, requestsCleared};
+ghost use Rattle.bank_slots_spec.specs.Parts.{bumped, faultCounted, flagsLatched, requestsCleared, queued};
 
 pub(crate) fn clear_sent(state: &mut [u16])
     requires { ⌜ length (now state) ≡ slots ⌝ }
@@ -50,6 +52,18 @@ pub(crate) fn clear_run(state: &mut [u16])
     state[RUN + 2] = 0;
     state[RUN + 3] = 0;
     state[RUN + 4] = 0;
+}
+
+pub(crate) fn put_run(state: &mut [u16], motor: usize, run: DshotCommandSequence)
+    requires { ⌜ (length (now state) ≡ slots) × (motor < 4) ⌝ }
+    ensures { λ r. ⌜ Moves (onCore (queued motor (runOf run))) (now (state .entry)) (now (state .exit)) ⌝ }
+{
+    let commands = run.commands;
+    state[RUN] = motor as u16 + 1;
+    state[RUN + 1] = commands[0];
+    state[RUN + 2] = commands[1];
+    state[RUN + 3] = run.index as u16;
+    state[RUN + 4] = run.repeats_left as u16;
 }
 
 pub(crate) fn stop(state: &mut [u16])

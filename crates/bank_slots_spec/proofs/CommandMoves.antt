@@ -15,20 +15,19 @@ use Rattle.dshot_reply_spec.specs.Answer.{pick}
 use Rattle.dshot_spec.specs.Tabulate.{tabulate}
 use Rattle.dshot_spec.specs.Throttle.{throttleValue, throttleValues}
 use Rattle.dshot_bank_spec.specs.Lanes.{any, isSome}
-use Rattle.dshot_bank_spec.specs.State.{MotorRun, Core}
-use Rattle.dshot_bank_spec.specs.With.{withBidirectional, withDemand, withTelemetry, withCommandSequence, withFrame}
+use Rattle.dshot_bank_spec.specs.State.{Core}
+use Rattle.dshot_bank_spec.specs.With.{withBidirectional, withDemand, withTelemetry, withFrame}
 use Rattle.dshot_bank_spec.specs.Commands.{fromLanes, isRunning}
 use Rattle.dshot_bank_spec.proofs.LaneLaws.{on, off}
 use Rattle.bank_slots_spec.specs.Memory.{Row, _holds_, at, write, longRows}
 use Rattle.bank_slots_spec.specs.Memory as Memory
-use Rattle.bank_slots_spec.specs.Layout.{slots, TIMING, VALUES, LEASE-STARTED, LEASE-OVER, REQUEST, BIDIRECTIONAL, REPLIES, choice, four, timingAt, bankAt, load, valueRows, runRows, store}
-use Rattle.bank_slots_spec.specs.Written.{RunFits}
+use Rattle.bank_slots_spec.specs.Layout.{slots, TIMING, VALUES, LEASE-STARTED, LEASE-OVER, REQUEST, BIDIRECTIONAL, REPLIES, choice, four, timingAt, bankAt, load, valueRows, store}
 use Rattle.bank_slots_spec.specs.Moves.{Moves, onCore}
-use Rattle.bank_slots_spec.specs.Outs.{motorSlots, runGiven}
-use Rattle.bank_slots_spec.specs.Parts.{demanded, queued}
+use Rattle.bank_slots_spec.specs.Outs.{motorSlots}
+use Rattle.bank_slots_spec.specs.Parts.{demanded}
 use Rattle.bank_slots_spec.proofs.MemoryLaws.{length-write}
 use Rattle.bank_slots_spec.proofs.MoveLaws.{moves-write, moves-at}
-use Rattle.bank_slots_spec.proofs.FieldLaws.{four-back, long-back, lease-back, choice-back, choice-written, run-back, run-written}
+use Rattle.bank_slots_spec.proofs.FieldLaws.{four-back, long-back, lease-back, choice-back, choice-written}
 
 -- ---- a new bank
 
@@ -62,17 +61,6 @@ module _ (xs : List ℕ) (n : length xs ≡ slots) where
       moves-write ((REQUEST holds motor + 1) ∷ []) xs n refl
       (ap (λ (o : Option ℕ). onCore (λ (c : Core). withTelemetry (record { request = o; requestSent = c .telemetry .requestSent }) c) (bankAt (at xs))) (choice-back (some motor) h))
       (λ w. (w .0, (w .1 .0, ((choice-written (some motor) h, w .1 .1 .0 .1, w .1 .1 .0 .2), w .1 .1 .1))))
-
-  -- a run
-  run-set : (r : MotorRun) → RunFits r → Moves (onCore (withCommandSequence (some r))) xs (write (runRows (some r)) xs)
-  run-set r h =
-      moves-write (runRows (some r)) xs n refl
-      (ap (λ (o : Option MotorRun). onCore (withCommandSequence o) (bankAt (at xs))) (run-back (some r) h))
-      (λ w. (w .0, (w .1 .0, ((w .1 .1 .0 .0, w .1 .1 .0 .1, run-written (some r) h), w .1 .1 .1))))
-
-  -- a run that was given in four slots
-  pub run-queued : (motor : ℕ) (s : List ℕ) → motor < 4 → Moves (onCore (queued motor (runGiven s))) xs (write (runRows (some (record { motor = motor; sequence = runGiven s }))) xs)
-  run-queued motor s h = run-set (record { motor = motor; sequence = runGiven s }) (record { motor = h; two = refl; index = omega arith; left = omega arith })
 
   -- a demand and its lease
   demand-set : (commands : List ℕ) (now d : ℕ) → now < 2 ^ 64 → d + 1 < 2 ^ 64

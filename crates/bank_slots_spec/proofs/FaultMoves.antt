@@ -3,22 +3,25 @@
 use mathlib.Core.Path.{_≡_, _∙_, refl, sym, ap}
 use mathlib.Core.Bool.{Bool, true, false, not}
 use mathlib.Core.List.{List, [], _∷_, _++_}
-use mathlib.Core.Option.{none}
-use Prim.Native.Nat.{ℕ, _+_}
+use mathlib.Core.Option.{Option, none, some}
+use Prim.Native.Nat.{ℕ, _+_, _<_}
 use lib.Dec.{eqb}
 use lib.ListN.{length}
 use Rattle.dshot_reply_spec.specs.Answer.{pick}
-use Rattle.dshot_bank_spec.specs.State.{Stats, Core, Bank}
+use Rattle.dshot_spec.specs.Command.{CommandRun}
+use Rattle.dshot_bank_spec.specs.State.{Stats, MotorRun, Core}
 use Rattle.dshot_bank_spec.specs.Replies.{wrappingAdd}
 use Rattle.dshot_bank_spec.specs.With.{withDmaFaults, withSpuriousInterrupts, withCommandSequence, withStats, withCore}
 use Rattle.dshot_bank_spec.specs.Commands.{commandStop, clearRequestSent, cancelTelemetryRequest}
 use Rattle.dshot_bank_spec.specs.Send.{countFault, latchFault}
-use Rattle.bank_slots_spec.specs.Memory.{Row, _holds_, at, write, over, word, wordRows}
-use Rattle.bank_slots_spec.specs.Layout.{slots, bankAt, load, flag, four, VALUES, LEASE-OVER, REQUEST, SENT, RUN, BUSY, FAULTED, RECEIVING, WAITING, DMA-FAULTS, SPURIOUS}
+use Rattle.bank_slots_spec.specs.Memory.{Row, _holds_, at, write, word, wordRows}
+use Rattle.bank_slots_spec.specs.Layout.{slots, bankAt, load, four, VALUES, LEASE-OVER, REQUEST, SENT, RUN, runRows, BUSY, FAULTED, RECEIVING, WAITING, DMA-FAULTS, SPURIOUS}
+use Rattle.bank_slots_spec.specs.Written.{RunFits}
 use Rattle.bank_slots_spec.specs.Moves.{Moves, onCore}
-use Rattle.bank_slots_spec.specs.Parts.{bumped, faultCounted, flagsLatched, requestsCleared}
+use Rattle.bank_slots_spec.specs.Parts.{bumped, queued, faultCounted, flagsLatched, requestsCleared}
 use Rattle.bank_slots_spec.proofs.MemoryLaws.{length-write}
 use Rattle.bank_slots_spec.proofs.MoveLaws.{moves-write, moves-then, moves-as, moves-at, stays, counted}
+use Rattle.bank_slots_spec.proofs.FieldLaws.{run-back, run-written}
 
 -- zeros from slot k
 abbrev pub zeros : ℕ → List Row
@@ -44,6 +47,15 @@ module _ (xs : List ℕ) (n : length xs ≡ slots) where
 
   pub run-cleared : Moves (onCore (withCommandSequence none)) xs (write runCleared xs)
   run-cleared = moves-write runCleared xs n refl refl (λ w. (w .0, (w .1 .0, ((w .1 .1 .0 .0, w .1 .1 .0 .1, refl), w .1 .1 .1))))
+
+  pub run-put : (motor : ℕ) (s : CommandRun) → motor < 4 → length (s .commands) ≡ 2 → s .index < 256 → s .repeatsLeft < 256
+      → Moves (onCore (queued motor s)) xs (write (runRows (some (record { motor = motor; sequence = s }))) xs)
+  run-put motor s h two index left =
+      let r : MotorRun = record { motor = motor; sequence = s } in
+      let fits : RunFits r = record { motor = h; two = two; index = index; left = left } in
+      moves-write (runRows (some r)) xs n refl
+      (ap (λ (o : Option MotorRun). onCore (withCommandSequence o) (bankAt (at xs))) (run-back (some r) fits))
+      (λ w. (w .0, (w .1 .0, ((w .1 .1 .0 .0, w .1 .1 .0 .1, run-written (some r) fits), w .1 .1 .1))))
 
   pub stopped : Moves (onCore (commandStop 4)) xs (write stopRows xs)
   unfolding commandStop

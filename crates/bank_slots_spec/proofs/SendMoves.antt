@@ -14,7 +14,7 @@ use Rattle.dshot_spec.specs.Tabulate.{tabulate}
 use Rattle.dshot_spec.specs.Timing.{Timing}
 use Rattle.dshot_spec.specs.Packet.{Kind, motorPackets}
 use Rattle.dshot_spec.specs.Packet as Packet
-use Rattle.dshot_spec.specs.Command.{CommandRun, Command, Next, nextValue}
+use Rattle.dshot_spec.specs.Command.{Command, Next, nextValue}
 use Rattle.dshot_bank_spec.specs.Lanes.{any, position, isSome}
 use Rattle.dshot_bank_spec.specs.State.{Telemetry, Stats, MotorRun, Core, Bank, Buffers}
 use Rattle.dshot_bank_spec.specs.With.{withFramesStarted, withStartedMs, withCompletionMask, withBusy, withInSecond, withTelemetry, withCommandSequence, withFrame, withStats, withCore}
@@ -26,28 +26,18 @@ use Rattle.dshot_bank_spec.specs.Service.{frame-started, lease-expired, faulted
 use Rattle.dshot_bank_spec.specs.Calls.{buffersFit}
 use Rattle.dshot_bank_spec.proofs.LaneLaws.{on, off, under}
 use Rattle.bank_slots_spec.specs.Memory.{Row, _holds_, at, write, over, within, word, wordRows, longRows}
-use Rattle.bank_slots_spec.specs.Layout.{slots, VALUES, REQUEST, SENT, RUN, BUSY, IN-SECOND, COMPLETION, STARTED, FRAMES-STARTED, flag, bit, choice, four, sequenceAt, bankAt, load, runRows}
-use Rattle.bank_slots_spec.specs.Written.{WrittenAt, RunFits}
+use Rattle.bank_slots_spec.specs.Layout.{slots, VALUES, REQUEST, SENT, RUN, BUSY, IN-SECOND, COMPLETION, STARTED, FRAMES-STARTED, flag, bit, choice, sequenceAt, bankAt, load}
+use Rattle.bank_slots_spec.specs.Written.{WrittenAt}
 use Rattle.bank_slots_spec.specs.Moves.{Moves, onCore}
-use Rattle.bank_slots_spec.specs.Parts.{bumped, queued, runStepped, marksTurned, carriedBy, requestCarried, inFlight}
+use Rattle.bank_slots_spec.specs.Parts.{bumped, runStepped, marksTurned, carriedBy, requestCarried, inFlight}
 use Rattle.bank_slots_spec.specs.Outs.{taken, codes, serviceEvent, serviceSlots}
 use Rattle.bank_slots_spec.specs.Handles.{Serves}
 use Rattle.bank_slots_spec.proofs.MemoryLaws.{length-write}
 use Rattle.bank_slots_spec.proofs.CommandMoves.{values-part}
 use Rattle.bank_slots_spec.proofs.MoveLaws.{moves-write, moves-then, moves-as, moves-at, stays, counted}
-use Rattle.bank_slots_spec.proofs.FieldLaws.{flag-back, flag-written, long-back, run-back, run-written}
+use Rattle.bank_slots_spec.proofs.FieldLaws.{flag-back, flag-written, long-back}
 
 -- ---- the run of commands
-
-module _ (xs : List ℕ) (n : length xs ≡ slots) where
-  pub run-put : (motor : ℕ) (s : CommandRun) → motor < 4 → length (s .commands) ≡ 2 → s .index < 256 → s .repeatsLeft < 256
-      → Moves (onCore (queued motor s)) xs (write (runRows (some (record { motor = motor; sequence = s }))) xs)
-  run-put motor s h two index left =
-      let r : MotorRun = record { motor = motor; sequence = s } in
-      let fits : RunFits r = record { motor = h; two = two; index = index; left = left } in
-      moves-write (runRows (some r)) xs n refl
-      (ap (λ (o : Option MotorRun). onCore (withCommandSequence o) (bankAt (at xs))) (run-back (some r) fits))
-      (λ w. (w .0, (w .1 .0, ((w .1 .1 .0 .0, w .1 .1 .0 .1, run-written (some r) fits), w .1 .1 .1))))
 
 -- the step of a run
 abbrev runNext : Core → Core

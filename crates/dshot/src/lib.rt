@@ -347,7 +347,7 @@ pub fn encode_compare_sequence(
     Sequenced::First(chosen(bit_is_set(packet, 15), one, zero))
 }
 
-fn at_most(n: u16, most: u16) -> u16
+pub fn at_most(n: u16, most: u16) -> u16
     ensures { λ r. ⌜ r ≡ min n most ⌝ }
 {
     if n < most { n } else { most }

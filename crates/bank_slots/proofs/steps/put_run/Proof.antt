@@ -1,11 +1,11 @@
 -- The slots of a run written.
 use Rattle.dshot.specs.Answers.{runOf}
-use Rattle.bank_slots_spec.proofs.SendMoves.{run-put}
+use Rattle.bank_slots_spec.proofs.FaultMoves.{run-put}
 use native.Mathlib.Omega.{arith}
 use lib.ListN.{length-set}
 use borrow.Author.Needs.{needs}
-use Rattle.bank_slots.proofs.send.put_run.Statement.{statement}
-use Rattle.bank_slots.proofs.send.put_run.Tie as tie
+use Rattle.bank_slots.proofs.steps.put_run.Statement.{statement}
+use Rattle.bank_slots.proofs.steps.put_run.Tie as tie
 
 cast-state : tie.Need-cast-state
 cast-state c = search needs
