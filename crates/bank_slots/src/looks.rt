@@ -30,6 +30,7 @@ use crate::memory::put_word;
 use crate::memory::word_at;
 use crate::memory::zero;
 use dshot::COMPARE_DMA_SLOTS;
+use dshot_bank::looks::buffers_fit;
 use dshot_reply::DshotReply;
 use dshot_reply::DshotReplyError;
 use dshot_reply::ReplyRead;
@@ -43,7 +44,6 @@ ghost use Rattle.dshot_reply_spec.specs.Answer.{pick};
 ghost use Rattle.dshot_reply.specs.Answers.{replyAnswer};
 ghost use Rattle.dshot_bank_spec.specs.State.{Buffers};
 ghost use Rattle.dshot_bank_spec.specs.Calls as Call;
-ghost use Rattle.dshot_bank_spec.specs.Calls.{slotsFit};
 ghost use Rattle.bank_slots_spec.specs.Memory.{at, word, write, wordRows};
 ghost use Rattle.bank_slots_spec.specs.Layout.{slots, reply};
 ghost use Rattle.bank_slots_spec.specs.Layout as Layout;
@@ -258,15 +258,6 @@ fn copy(part: &[u16], out: &mut [u16])
     }
 }
 
-fn lengths_fit(first: usize, second: usize) -> bool
-    ensures { λ r. ⌜ r ≡ slotsFit 4 first second ⌝ }
-{
-    if first != COMPARE_DMA_SLOTS * LANES {
-        return false;
-    }
-    second == COMPARE_DMA_SLOTS * LANES
-}
-
 // The 16 slots of the sequence that a lane is sending, out of the buffer that its mark names.
 pub fn sending(bank: &[u16], first: &[u16], second: &[u16], motor: usize, out: &mut [u16]) -> u32
     ensures { λ r. ⌜ r ≡ number (answerOf (fit (now (bank .entry)) (long 16 (now (out .entry)))) (stateAt (now (bank .entry)) (record { first = now (first .entry); second = now (second .entry) })) (Call.sending motor)) ⌝ }
@@ -278,7 +269,7 @@ pub fn sending(bank: &[u16], first: &[u16], second: &[u16], motor: usize, out: &
     if out.len() != COMPARE_DMA_SLOTS {
         return 13;
     }
-    if !lengths_fit(first.len(), second.len()) {
+    if !buffers_fit(first.len(), second.len()) {
         return 13;
     }
     if motor >= LANES {

@@ -25,9 +25,8 @@ use crate::send::tell;
 use crate::steps::clear_sent;
 use crate::steps::latch_fault;
 use crate::steps::stop;
-use dshot::COMPARE_DMA_SLOTS;
 use dshot_bank::DSHOT_FRAME_TIMEOUT_MS;
-use dshot_reply::REPLY_WINDOW_SAMPLES;
+use dshot_bank::service::lengths_fit;
 ghost use mathlib.Core.Path.{_≡_};
 ghost use mathlib.Core.Bool.{Bool, true, false};
 ghost use mathlib.Core.List.{[], _∷_, _++_};
@@ -38,7 +37,7 @@ ghost use Rattle.dshot_bank_spec.specs.State.{Core, Bank, Buffers};
 ghost use Rattle.dshot_bank_spec.specs.Send.{latchFault};
 ghost use Rattle.dshot_bank_spec.specs.Service as Spec;
 ghost use Rattle.dshot_bank_spec.specs.Service.{demandExpired, expireLease, serviceBusy};
-ghost use Rattle.dshot_bank_spec.specs.Calls.{serviceFits, service-call};
+ghost use Rattle.dshot_bank_spec.specs.Calls.{service-call};
 ghost use Rattle.bank_slots_spec.specs.Layout.{slots, load};
 ghost use Rattle.bank_slots_spec.specs.Moves.{Moves, onCore};
 ghost use Rattle.bank_slots_spec.specs.Handles.{Skips, Serves};
@@ -145,18 +144,6 @@ fn serve(
     }
     read_replies(state, lanes, captures);
     send(state, now_ms, lease_expired, lanes, first, second, out);
-}
-
-fn lengths_fit(first: usize, second: usize, captures: usize) -> bool
-    ensures { λ r. ⌜ r ≡ serviceFits 4 first second captures ⌝ }
-{
-    if first != COMPARE_DMA_SLOTS * LANES {
-        return false;
-    }
-    if second != COMPARE_DMA_SLOTS * LANES {
-        return false;
-    }
-    captures == REPLY_WINDOW_SAMPLES * LANES
 }
 
 // `lanes`: twelve slots, for each lane whether it took its buffer, then whether it has a capture, then the mask of its capture. The answer takes

@@ -22,7 +22,7 @@ pub enum View {
     NoSuchMotor,
 }
 
-pub(crate) fn buffers_fit(first: usize, second: usize) -> bool
+pub fn buffers_fit(first: usize, second: usize) -> bool
     ensures { λ r. ⌜ r ≡ slotsFit 4 first second ⌝ }
 {
     if first != COMPARE_DMA_SLOTS * LANES {

@@ -191,7 +191,7 @@ fn sent_event(started: bool, lease_expired: bool) -> DshotServiceEvent
     DshotServiceEvent::FrameStarted
 }
 
-fn lengths_fit(first: usize, second: usize, captures: usize) -> bool
+pub fn lengths_fit(first: usize, second: usize, captures: usize) -> bool
     ensures { λ r. ⌜ r ≡ serviceFits 4 first second captures ⌝ }
 {
     if !buffers_fit(first, second) {

@@ -45,15 +45,15 @@ returns-2 c =
     let a = c .before .before .before .before .before .before .args in
     short-at (sending (a .motor)) 16 (a .bank .now) (a .out .now) (c .before .if1 .left) (c .if2 .taken) (record { first = a .first .now; second = a .second .now })
 
-lengths-fit-requires : tie.Need-lengths-fit-requires
-lengths-fit-requires c κs = search needs
+buffers-fit-requires : tie.Need-buffers-fit-requires
+buffers-fit-requires c κs = search needs
 
 returns-3 : tie.Need-returns-3
 returns-3 c =
     let t = c .before in
     let l = t .before in
     let a = l .before .before .before .before .before .before .args in
-    unfit (a .bank .now) (a .out .now) (record { first = a .first .now; second = a .second .now }) (a .motor) (l .before .if1 .left) (l .if2 .left) (sym (t .lengths-fit .ensures) ∙ not-true (t .lengths-fit .result) (c .if3 .taken))
+    unfit (a .bank .now) (a .out .now) (record { first = a .first .now; second = a .second .now }) (a .motor) (l .before .if1 .left) (l .if2 .left) (sym (t .buffers-fit .ensures) ∙ not-true (t .buffers-fit .result) (c .if3 .taken))
 
 returns-4 : tie.Need-returns-4
 returns-4 c =
@@ -61,7 +61,7 @@ returns-4 c =
     let l = t .before in
     let a = l .before .before .before .before .before .before .args in
     missing (a .bank .now) (a .out .now) (record { first = a .first .now; second = a .second .now }) (a .motor) (l .before .if1 .left) (l .if2 .left)
-    (sym (t .lengths-fit .ensures) ∙ not-false (t .lengths-fit .result) (c .before .if3 .left)) (c .if4 .taken)
+    (sym (t .buffers-fit .ensures) ∙ not-false (t .buffers-fit .result) (c .before .if3 .left)) (c .if4 .taken)
 
 mul-from : tie.Need-mul-from
 mul-from c = search needs
@@ -94,7 +94,7 @@ part-copy-end : tie.Need-part-copy-end
 part-copy-end c =
     let d = c .before .before .before .before in
     let a = c .before .before .before .before .before .before .before .before .before .before .before .before .args in
-    let f = d .before .lengths-fit in
+    let f = d .before .buffers-fit in
     let n = two-fit (length (a .first .now)) (length (a .second .now)) (sym (f .ensures) ∙ not-false (f .result) (d .if3 .left)) in
     omega (arith, n .1)
 
@@ -114,7 +114,7 @@ part-copy-end-2 : tie.Need-part-copy-end-2
 part-copy-end-2 c =
     let d = c .before .before .before .before in
     let a = c .before .before .before .before .before .before .before .before .before .before .before .before .args in
-    let f = d .before .lengths-fit in
+    let f = d .before .buffers-fit in
     let n = two-fit (length (a .first .now)) (length (a .second .now)) (sym (f .ensures) ∙ not-false (f .result) (d .if3 .left)) in
     omega (arith, n .0)
 
@@ -132,7 +132,7 @@ returns-5 c =
     let l = t .before in
     let a = l .before .before .before .before .before .before .args in
     shown (a .bank .now) (a .out .now) (record { first = a .first .now; second = a .second .now }) (a .motor) (l .before .if1 .left) (l .if2 .left)
-    (sym (t .lengths-fit .ensures) ∙ not-false (t .lengths-fit .result) (d .before .if3 .left)) (d .if4 .left)
+    (sym (t .buffers-fit .ensures) ∙ not-false (t .buffers-fit .result) (d .before .if3 .left)) (d .if4 .left)
     (sym (f .before .flag .ensures) ∙ f .if5 .taken) (c .before .before .copy .ensures)
 
 same-length-2 : tie.Need-same-length-2
@@ -146,7 +146,7 @@ returns-6 c =
     let l = t .before in
     let a = l .before .before .before .before .before .before .args in
     shown (a .bank .now) (a .out .now) (record { first = a .first .now; second = a .second .now }) (a .motor) (l .before .if1 .left) (l .if2 .left)
-    (sym (t .lengths-fit .ensures) ∙ not-false (t .lengths-fit .result) (d .before .if3 .left)) (d .if4 .left)
+    (sym (t .buffers-fit .ensures) ∙ not-false (t .buffers-fit .result) (d .before .if3 .left)) (d .if4 .left)
     (sym (f .before .flag .ensures) ∙ f .if5 .left) (c .before .before .copy2 .ensures)
 
 pub sending-spec : {M : Type 1} → statement M
@@ -155,7 +155,7 @@ sending-spec =
     (tie.spec
     returns
     returns-2
-    lengths-fit-requires
+    buffers-fit-requires
     returns-3
     returns-4
     mul-from
