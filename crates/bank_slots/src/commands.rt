@@ -6,7 +6,6 @@
 
 use crate::BIDIRECTIONAL;
 use crate::FAULTED;
-use crate::LANES;
 use crate::LEASE_OVER;
 use crate::LEASE_STARTED;
 use crate::REPLIES;
@@ -26,6 +25,8 @@ use crate::steps::put_run;
 use crate::steps::stop;
 use dshot::DshotCommandSequence;
 use dshot::at_most;
+use dshot_bank::DSHOT_COMMAND_MAX;
+use dshot_bank::LANES;
 ghost use mathlib.Core.Path.{_≡_};
 ghost use mathlib.Core.Bool.{true};
 ghost use Prim.Native.Nat.{_<_};
@@ -42,8 +43,6 @@ ghost use Rattle.bank_slots_spec.specs.Moves.{Moves, onCore};
 ghost use Rattle.bank_slots_spec.specs.Called.{Called, fit, long, stateAt, answerOf, number};
 ghost use Rattle.bank_slots_spec.specs.Outs.{motorSlots, outAfter, runGiven};
 ghost use Rattle.bank_slots_spec.specs.Parts.{demanded, queued};
-
-const DSHOT_COMMAND_MAX: u16 = 2000;
 
 // The stored reply of a lane of which no window has been read.
 const NO_REPLY: u16 = 7;

@@ -11,7 +11,6 @@ use crate::FAULTED;
 use crate::FRAMES_COMPLETED;
 use crate::INTERRUPT_SLOTS;
 use crate::LANE_COMPLETIONS;
-use crate::LANES;
 use crate::RECEIVING;
 use crate::SLOTS;
 use crate::WAITING;
@@ -19,8 +18,17 @@ use crate::memory::bump;
 use crate::memory::flag;
 use crate::memory::put_word;
 use crate::memory::word_at;
+use crate::numbers::BEGIN_RECEIVE;
+use crate::numbers::COMPLETED;
+use crate::numbers::END_RECEIVE;
+use crate::numbers::FORCE_OUTPUTS_LOW;
+use crate::numbers::INTERRUPT_FAULT;
+use crate::numbers::PAUSE_AND_CLEAR;
+use crate::numbers::SPURIOUS_EVENT;
+use crate::numbers::STOP_FRAME;
 use crate::steps::bump_if;
 use crate::steps::latch_fault;
+use dshot_bank::LANES;
 ghost use mathlib.Core.Path.{_≡_};
 ghost use mathlib.Core.Bool.{true, false, Bool};
 ghost use mathlib.Core.List.{List, [], _∷_, _++_};
@@ -38,24 +46,6 @@ ghost use Rattle.bank_slots_spec.specs.Called.{Called, fit, long, stateAt, answ
 ghost use Rattle.bank_slots_spec.specs.Outs.{interruptEvent, outAfter};
 
 const ALL_MOTORS_COMPLETE: u32 = 0b1111;
-
-// The events.
-const COMPLETED: u16 = 0;
-
-const FAULT: u16 = 1;
-
-const SPURIOUS: u16 = 2;
-
-// The numbers of the orders: of a pause, to which its lane is added, and of those for all lanes.
-const PAUSE: u16 = 48;
-
-const STOP_FRAME: u16 = 32;
-
-const FORCE_LOW: u16 = 40;
-
-const BEGIN_RECEIVE: u16 = 56;
-
-const END_RECEIVE: u16 = 64;
 
 fn completion_bit(lane: usize) -> u32
     requires { ⌜ lane < 4 ⌝ }
@@ -136,7 +126,12 @@ fn tell_paused(out: &mut [u16], event: u16, lane: usize)
     requires { ⌜ (length (now out) ≡ 9) × (lane < 4) ⌝ }
     ensures { λ r. ⌜ now (out .exit) ≡ event ∷ 1 ∷ (48 + lane) ∷ 0 ∷ 0 ∷ 0 ∷ 0 ∷ 0 ∷ 0 ∷ [] ⌝ }
 {
-    tell(out, event, 1, [PAUSE + lane as u16, 0, 0, 0, 0, 0, 0]);
+    tell(
+        out,
+        event,
+        1,
+        [PAUSE_AND_CLEAR + lane as u16, 0, 0, 0, 0, 0, 0],
+    );
 }
 
 // The lane's pause, and one order for all lanes.
@@ -148,7 +143,7 @@ fn tell_order(out: &mut [u16], lane: usize, order: u16)
         out,
         COMPLETED,
         2,
-        [PAUSE + lane as u16, order, 0, 0, 0, 0, 0],
+        [PAUSE_AND_CLEAR + lane as u16, order, 0, 0, 0, 0, 0],
     );
 }
 
@@ -163,12 +158,12 @@ fn latched(state: &mut [u16], lane: usize, spurious: bool, event: u16, out: &mut
         event,
         6,
         [
-            PAUSE + lane as u16,
-            FORCE_LOW,
-            PAUSE,
-            PAUSE + 1,
-            PAUSE + 2,
-            PAUSE + 3,
+            PAUSE_AND_CLEAR + lane as u16,
+            FORCE_OUTPUTS_LOW,
+            PAUSE_AND_CLEAR,
+            PAUSE_AND_CLEAR + 1,
+            PAUSE_AND_CLEAR + 2,
+            PAUSE_AND_CLEAR + 3,
             0,
         ],
     );
@@ -183,16 +178,16 @@ fn latched_turning(state: &mut [u16], lane: usize, order: u16, out: &mut [u16])
     latch_fault(state, false);
     tell(
         out,
-        FAULT,
+        INTERRUPT_FAULT,
         7,
         [
-            PAUSE + lane as u16,
+            PAUSE_AND_CLEAR + lane as u16,
             order,
-            FORCE_LOW,
-            PAUSE,
-            PAUSE + 1,
-            PAUSE + 2,
-            PAUSE + 3,
+            FORCE_OUTPUTS_LOW,
+            PAUSE_AND_CLEAR,
+            PAUSE_AND_CLEAR + 1,
+            PAUSE_AND_CLEAR + 2,
+            PAUSE_AND_CLEAR + 3,
         ],
     );
 }
@@ -241,23 +236,23 @@ fn handle(
     ensures { λ r. ⌜ Handles (Spec.onDmaInterrupt 4 lane «transfer_complete» «dma_error» turned «turned_back») (now (state .entry)) (now (state .exit)) (now (out .exit)) ⌝ }
 {
     if flag(state[FAULTED]) {
-        tell_paused(out, FAULT, lane);
+        tell_paused(out, INTERRUPT_FAULT, lane);
         return;
     }
     if !flag(state[BUSY]) {
-        latched(state, lane, true, SPURIOUS, out);
+        latched(state, lane, true, SPURIOUS_EVENT, out);
         return;
     }
     if word_at(state, COMPLETION) & completion_bit(lane) != 0 {
-        latched(state, lane, true, SPURIOUS, out);
+        latched(state, lane, true, SPURIOUS_EVENT, out);
         return;
     }
     if dma_error {
-        latched(state, lane, false, FAULT, out);
+        latched(state, lane, false, INTERRUPT_FAULT, out);
         return;
     }
     if !transfer_complete {
-        latched(state, lane, true, SPURIOUS, out);
+        latched(state, lane, true, SPURIOUS_EVENT, out);
         return;
     }
     lane_done(state, lane);

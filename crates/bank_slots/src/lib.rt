@@ -4,6 +4,9 @@
 // Numbers in slots.
 mod memory;
 
+// The numbers of events and orders.
+mod numbers;
+
 // The steps that calls are made of.
 mod steps;
 
@@ -27,9 +30,6 @@ pub mod service;
 
 // The slots of a state.
 pub const SLOTS: usize = 97;
-
-// The lanes of a bank.
-pub const LANES: usize = 4;
 
 // The slots of what the hardware answered: for each lane whether it took its buffer, whether it has a capture, and its mask.
 pub const LANES_SLOTS: usize = 12;

@@ -9,7 +9,6 @@ use crate::BUSY;
 use crate::COMPLETION;
 use crate::FRAMES_STARTED;
 use crate::IN_SECOND;
-use crate::LANES;
 use crate::REQUEST;
 use crate::RUN;
 use crate::SENT;
@@ -21,6 +20,14 @@ use crate::memory::bump;
 use crate::memory::flag;
 use crate::memory::put_long;
 use crate::memory::put_word;
+use crate::numbers::FAULT;
+use crate::numbers::FRAME_STARTED;
+use crate::numbers::LEASE_EXPIRED;
+use crate::numbers::REFUSED_BY_0;
+use crate::numbers::REFUSED_BY_1;
+use crate::numbers::REFUSED_BY_2;
+use crate::numbers::REFUSED_BY_3;
+use crate::numbers::START_ORDERS;
 use crate::steps::clear_run;
 use crate::steps::latch_fault;
 use crate::steps::put_run;
@@ -30,6 +37,7 @@ use dshot::DshotCommandSequence;
 use dshot::DshotTiming;
 use dshot::MotorValues;
 use dshot::TelemetryLane;
+use dshot_bank::LANES;
 use dshot_bank::replies::LaneFlags;
 use dshot_bank::send::encode_spares;
 ghost use mathlib.Core.Path.{_≡_};
@@ -68,17 +76,6 @@ pub(crate) struct FrameSet {
     pub telemetry_lane: TelemetryLane,
     pub ordinary: bool,
 }
-
-// The events of a service that sends.
-const FRAME_STARTED: u16 = 0;
-
-const LEASE_EXPIRED: u16 = 2;
-
-const FAULT: u16 = 3;
-
-// The orders of a frame set that starts: every buffer exchanged, every stream enabled, and the timers. All DMA streams are enabled before any
-// timer DMA request is opened.
-const START_ORDERS: [u16; 9] = [8, 9, 10, 11, 16, 17, 18, 19, 24];
 
 // ---- the run of commands
 
@@ -275,10 +272,10 @@ fn refused_orders(lane: usize) -> [u16; 9]
     ensures { λ r. ⌜ r ≡ codes 9 (refusedOrders 4 lane) ⌝ }
 {
     match lane {
-        0 => [8, 40, 48, 49, 50, 51, 0, 0, 0],
-        1 => [8, 9, 40, 48, 49, 50, 51, 0, 0],
-        2 => [8, 9, 10, 40, 48, 49, 50, 51, 0],
-        _ => [8, 9, 10, 11, 40, 48, 49, 50, 51],
+        0 => REFUSED_BY_0,
+        1 => REFUSED_BY_1,
+        2 => REFUSED_BY_2,
+        _ => REFUSED_BY_3,
     }
 }
 

@@ -8,7 +8,6 @@ use crate::BUSY;
 use crate::BUSY_SKIPS;
 use crate::FAULTED;
 use crate::FRAME_TIMEOUTS;
-use crate::LANES;
 use crate::LANES_SLOTS;
 use crate::LEASE_EXPIRIES;
 use crate::LEASE_OVER;
@@ -19,6 +18,11 @@ use crate::STARTED;
 use crate::memory::bump;
 use crate::memory::flag;
 use crate::memory::long_at;
+use crate::numbers::BUSY_EVENT;
+use crate::numbers::FAULT;
+use crate::numbers::LATCH_ORDERS;
+use crate::numbers::LEASE_EXPIRED;
+use crate::numbers::NO_ORDERS;
 use crate::replies::read_replies;
 use crate::send::send;
 use crate::send::tell;
@@ -26,6 +30,7 @@ use crate::steps::clear_sent;
 use crate::steps::latch_fault;
 use crate::steps::stop;
 use dshot_bank::DSHOT_FRAME_TIMEOUT_MS;
+use dshot_bank::LANES;
 use dshot_bank::service::lengths_fit;
 ghost use mathlib.Core.Path.{_≡_};
 ghost use mathlib.Core.Bool.{Bool, true, false};
@@ -43,18 +48,6 @@ ghost use Rattle.bank_slots_spec.specs.Moves.{Moves, onCore};
 ghost use Rattle.bank_slots_spec.specs.Handles.{Skips, Serves};
 ghost use Rattle.bank_slots_spec.specs.Called.{Called, fit, long, stateAt, answerOf, buffersAfter};
 ghost use Rattle.bank_slots_spec.specs.Outs.{taken, present, masks, outAfter};
-
-// The events of a service that sends nothing.
-const BUSY_EVENT: u16 = 1;
-
-const LEASE_EXPIRED: u16 = 2;
-
-const FAULT: u16 = 3;
-
-const NO_ORDERS: [u16; 9] = [0, 0, 0, 0, 0, 0, 0, 0, 0];
-
-// The orders of a latched fault: the outputs low, and every stream paused.
-const LATCH_ORDERS: [u16; 9] = [40, 48, 49, 50, 51, 0, 0, 0, 0];
 
 fn expired(state: &[u16], now_ms: u64) -> bool
     requires { ⌜ length (now state) ≡ slots ⌝ }
