@@ -17,7 +17,6 @@ use Rattle.dshot_bank_bench.proofs.CycleLaws.{lengths-of, refused-all, 
 use borrow.Author.Needs.{needs}
 use Rattle.dshot_bank_bench.proofs.bench_bank_cycles.Statement.{statement}
 use Rattle.dshot_bank_bench.proofs.bench_bank_cycles.Tie as tie
-use Rattle.dshot_bank_bench.proofs.bench_bank_cycles.Lts as lts
 
 lengths-fit-requires : tie.Need-lengths-fit-requires
 lengths-fit-requires c κs = search needs

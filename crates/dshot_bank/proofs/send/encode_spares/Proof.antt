@@ -10,35 +10,25 @@ use Rattle.dshot_bank.proofs.ReplyLaws.{two-fit}
 use borrow.Author.Needs.{needs}
 use Rattle.dshot_bank.proofs.send.encode_spares.Statement.{statement}
 use Rattle.dshot_bank.proofs.send.encode_spares.Tie as tie
-use Rattle.dshot_bank.proofs.send.encode_spares.Reads as reads
-use Rattle.dshot_bank.proofs.send.encode_spares.Lts as lts
-use Rattle.dshot_bank.proofs.looks.buffers_fit.Reads as buffers-fit-reads
-use Rattle.dshot_bank.proofs.send.encode_lanes.Reads as encode-lanes-reads
 
--- src/send.rt:316:9
 buffers-fit-requires : tie.Need-buffers-fit-requires
 buffers-fit-requires c κs = search needs
 
--- src/send.rt:317:9
 returns : tie.Need-returns
 returns c =
     let a = c .before .before .before .before .args in
     let misfit = sym (c .before .buffers-fit .ensures) ∙ not-true _ (c .if1 .taken) in
     (off (firstDuties 4 (timingOf (a .timing)) (words (a .packets))) (replicate 4 0) misfit refl, off _ _ misfit refl)
 
--- src/send.rt:319:5
 encode-lanes-requires : tie.Need-encode-lanes-requires
 encode-lanes-requires c κs = two-fit _ _ (sym (c .before .before .before .buffers-fit .ensures) ∙ not-false _ (c .before .before .if1 .left))
 
--- src/send.rt:306:1
 same-length : tie.Need-same-length
 same-length c = search needs
 
--- src/send.rt:306:1
 same-length-2 : tie.Need-same-length-2
 same-length-2 c = search needs
 
--- src/send.rt:306:1
 returns-2 : tie.Need-returns-2
 returns-2 c =
     let fit = sym (c .before .before .before .before .before .before .before .before .buffers-fit .ensures) ∙ not-false _ (c .before .before .before .before .before .before .before .if1 .left) in
