@@ -1,4 +1,5 @@
--- A loop over four slots: no value before the lane is above the bound.
+-- `bank_slots::commands::any_above` meets its contract: a loop over four slots: no value before the lane is above the bound.
+-- Assumes nothing.
 use Rattle.dshot_bank_spec.proofs.LaneLaws.{Passed, passed-none, passed-more, any-hit, any-miss}
 use lib.Dec.{ltb}
 use borrow.Author.Tests.{lt-ltb, le-ltb}

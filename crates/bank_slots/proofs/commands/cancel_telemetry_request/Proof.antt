@@ -1,4 +1,5 @@
--- A request withdrawn: refused, or done by `clear_request`.
+-- `bank_slots::commands::cancel_telemetry_request` meets its contract: a request withdrawn: refused, or done by `clear_request`.
+-- Assumes nothing.
 use mathlib.Core.Bool.{true}
 use Rattle.bank_slots_spec.proofs.CommandCalls.{cancel-done}
 use Rattle.bank_slots_spec.proofs.CalledLaws.{with-answer, state-short, called-unfit}

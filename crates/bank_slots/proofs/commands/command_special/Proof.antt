@@ -1,4 +1,5 @@
--- A run queued: each refusal in its turn, or done by `queue`.
+-- `bank_slots::commands::command_special` meets its contract: a run queued: each refusal in its turn, or done by `queue`.
+-- Assumes nothing.
 use mathlib.Core.Path.{_∙_, sym}
 use Rattle.bank_slots_spec.proofs.CommandCalls.{other-long, special-missing, special-faulted, special-running, special-pending, special-queued}
 use Rattle.bank_slots_spec.proofs.CalledLaws.{with-answer, state-short, called-unfit}

@@ -1,4 +1,5 @@
--- A stop: refused, or done by `stop`.
+-- `bank_slots::commands::command_stop` meets its contract: a stop: refused, or done by `stop`.
+-- Assumes nothing.
 use mathlib.Core.Bool.{true}
 use Rattle.bank_slots_spec.proofs.CommandCalls.{stop-done}
 use Rattle.bank_slots_spec.proofs.CalledLaws.{with-answer, state-short, called-unfit}

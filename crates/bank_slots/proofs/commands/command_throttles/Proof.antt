@@ -1,4 +1,5 @@
--- Throttles: each refusal in its turn, or a stop, or a demand.
+-- `bank_slots::commands::command_throttles` meets its contract: throttles: each refusal in its turn, or a stop, or a demand.
+-- Assumes nothing.
 use mathlib.Core.Path.{_∙_, sym, ap}
 use mathlib.Core.Bool.{not}
 use Rattle.bank_slots_spec.proofs.CommandCalls.{other-long, throttles-faulted, throttles-high, throttles-stop, throttled}

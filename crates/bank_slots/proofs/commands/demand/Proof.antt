@@ -1,4 +1,5 @@
--- The slots of a demand and of its lease.
+-- `bank_slots::commands::demand` meets its contract: the slots of a demand and of its lease.
+-- Assumes nothing.
 use mathlib.Core.Path.{_∙_, refl, ap}
 use mathlib.Core.List.{List}
 use Prim.Native.Nat.{ℕ}

@@ -1,4 +1,5 @@
--- Bidirectional DShot: refused, or the flag set.
+-- `bank_slots::commands::enable_bidirectional` meets its contract: bidirectional DShot: refused, or the flag set.
+-- Assumes nothing.
 use mathlib.Core.Bool.{true}
 use Rattle.bank_slots_spec.proofs.CommandCalls.{enable-refused, enabled}
 use Rattle.bank_slots_spec.proofs.CalledLaws.{with-answer, state-short, called-unfit}

@@ -1,4 +1,5 @@
--- A new bank: refused, or every slot written.
+-- `bank_slots::commands::from_lanes` meets its contract: a new bank: refused, or every slot written.
+-- Assumes nothing.
 use Rattle.bank_slots_spec.proofs.CommandCalls.{other-long, not-made, made}
 use Rattle.bank_slots_spec.proofs.CalledLaws.{state-short}
 use Rattle.bank_slots_spec.specs.Called.{long}

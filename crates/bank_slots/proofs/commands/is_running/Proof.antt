@@ -1,4 +1,5 @@
--- A lease tells that motors run, and else their values.
+-- `bank_slots::commands::is_running` meets its contract: a lease tells that motors run, and else their values.
+-- Assumes nothing.
 use Rattle.bank_slots_spec.proofs.CommandMoves.{lease-runs, values-run}
 use mathlib.Core.Path.{_∙_, sym}
 use borrow.Author.Needs.{needs}

@@ -1,4 +1,5 @@
--- A motor or none in two slots.
+-- `bank_slots::commands::put_choice` meets its contract: a motor or none in two slots.
+-- Assumes nothing.
 use Rattle.bank_slots_spec.proofs.CommandMoves.{no-motor-told, motor-told}
 use borrow.Author.Needs.{needs}
 use Rattle.bank_slots.proofs.commands.put_choice.Statement.{statement}

@@ -1,4 +1,5 @@
--- A run made of four slots, and put.
+-- `bank_slots::commands::queue` meets its contract: a run made of four slots, and put.
+-- Assumes nothing.
 use mathlib.Core.Path.{ap}
 use mathlib.Core.List.{[], _∷_}
 use Prim.Native.Nat.{ℕ, _%_}

@@ -1,4 +1,5 @@
--- A request: each refusal in its turn, or its slot written.
+-- `bank_slots::commands::request_telemetry` meets its contract: a request: each refusal in its turn, or its slot written.
+-- Assumes nothing.
 use mathlib.Core.Bool.{true}
 use mathlib.Core.Path.{_∙_, sym}
 use Rattle.bank_slots_spec.proofs.CommandCalls.{request-missing, request-faulted, request-pending, request-taken}

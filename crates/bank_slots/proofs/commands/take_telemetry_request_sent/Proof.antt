@@ -1,4 +1,5 @@
--- The sent request taken: refused, or told in two slots and cleared.
+-- `bank_slots::commands::take_telemetry_request_sent` meets its contract: the sent request taken: refused, or told in two slots and cleared.
+-- Assumes nothing.
 use Rattle.bank_slots_spec.proofs.CommandCalls.{other-long, sent-taken, sent-told}
 use Rattle.bank_slots_spec.proofs.CalledLaws.{state-short, called-unfit, answer-unfit, out-kept}
 use native.Mathlib.Omega.{arith}

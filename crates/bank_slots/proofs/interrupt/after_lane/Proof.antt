@@ -1,4 +1,5 @@
--- What follows a lane's completion: each return is a case of the tests.
+-- `bank_slots::interrupt::after_lane` meets its contract: what follows a lane's completion: each return is a case of the tests.
+-- Assumes nothing.
 use mathlib.Core.Path.{_∙_, refl, sym}
 use Rattle.bank_slots_spec.proofs.InterruptMoves.{after-some, after-opened, after-not-opened, after-closed, after-not-closed, after-sent}
 use borrow.Author.Needs.{needs}

@@ -1,4 +1,5 @@
--- A lane's bit, lane by lane.
+-- `bank_slots::interrupt::completion_bit` meets its contract: a lane's bit, lane by lane.
+-- Assumes nothing.
 use mathlib.Core.Path.{_≡_, sym, ap}
 use Prim.Native.Nat.{ℕ}
 use native.Mathlib.Omega.{arith}

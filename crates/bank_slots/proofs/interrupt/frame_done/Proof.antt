@@ -1,4 +1,5 @@
--- A frame set's slots after it is done.
+-- `bank_slots::interrupt::frame_done` meets its contract: a frame set's slots after it is done.
+-- Assumes nothing.
 use mathlib.Core.Path.{_∙_, sym, ap}
 use lib.ListN.{length, length-set}
 use Rattle.bank_slots_spec.proofs.MoveLaws.{moves-at}

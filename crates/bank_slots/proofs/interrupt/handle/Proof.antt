@@ -1,4 +1,5 @@
--- One interrupt of a lane: each return is a case of the tests.
+-- `bank_slots::interrupt::handle` meets its contract: one interrupt of a lane: each return is a case of the tests.
+-- Assumes nothing.
 use mathlib.Core.Path.{_∙_, refl, sym, ap}
 use mathlib.Core.Bool.{not}
 use Prim.Native.Nat.{ℕ}

@@ -1,4 +1,5 @@
--- The slots of a lane that has completed.
+-- `bank_slots::interrupt::lane_done` meets its contract: the slots of a lane that has completed.
+-- Assumes nothing.
 use mathlib.Core.Path.{refl}
 use lib.Bits.{bitOr}
 use Rattle.bank_slots_spec.proofs.InterruptMoves.{lane-done}

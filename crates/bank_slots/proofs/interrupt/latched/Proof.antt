@@ -1,4 +1,5 @@
--- A fault latched right after the lane's pause.
+-- `bank_slots::interrupt::latched` meets its contract: a fault latched right after the lane's pause.
+-- Assumes nothing.
 use Rattle.bank_slots_spec.proofs.InterruptMoves.{handles-latched}
 use borrow.Author.Needs.{needs}
 use Rattle.bank_slots.proofs.interrupt.latched.Statement.{statement}

@@ -1,4 +1,5 @@
--- A fault latched after lanes that could not turn around.
+-- `bank_slots::interrupt::latched_turning` meets its contract: a fault latched after lanes that could not turn around.
+-- Assumes nothing.
 use Rattle.dshot_bank_spec.specs.Order.{begin-receive, end-receive}
 use Rattle.bank_slots_spec.proofs.InterruptMoves.{handles-turning}
 use borrow.Author.Needs.{needs}

@@ -1,4 +1,5 @@
--- An interrupt's call: a slice of another length, a lane above the last, or the step.
+-- `bank_slots::interrupt::on_dma_interrupt` meets its contract: an interrupt's call: a slice of another length, a lane above the last, or the step.
+-- Assumes nothing.
 use Rattle.bank_slots_spec.proofs.InterruptMoves.{call-unfit, call-short, call-refused, call-done}
 use borrow.Author.Needs.{needs}
 use Rattle.bank_slots.proofs.interrupt.on_dma_interrupt.Statement.{statement}

@@ -1,4 +1,5 @@
--- Whether a window opens, from its two flags.
+-- `bank_slots::interrupt::opens_window` meets its contract: whether a window opens, from its two flags.
+-- Assumes nothing.
 use mathlib.Core.Path.{_∙_, refl, sym, ap}
 use mathlib.Core.Bool.{not}
 use Rattle.bank_slots_spec.specs.Layout.{load}

@@ -1,4 +1,5 @@
--- Nine slots filled one after another.
+-- `bank_slots::interrupt::tell` meets its contract: nine slots filled one after another.
+-- Assumes nothing.
 use mathlib.Core.Path.{_∙_, sym, ap}
 use mathlib.Core.List.{List, _∷_}
 use Prim.Native.Nat.{ℕ}

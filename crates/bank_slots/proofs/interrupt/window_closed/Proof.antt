@@ -1,4 +1,5 @@
--- The slots of a receive window that closes.
+-- `bank_slots::interrupt::window_closed` meets its contract: the slots of a receive window that closes.
+-- Assumes nothing.
 use mathlib.Core.Path.{_∙_}
 use lib.ListN.{length-set}
 use Rattle.bank_slots_spec.proofs.InterruptMoves.{window-closed}

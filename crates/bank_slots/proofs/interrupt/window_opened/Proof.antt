@@ -1,4 +1,5 @@
--- The slots of a receive window that opens.
+-- `bank_slots::interrupt::window_opened` meets its contract: the slots of a receive window that opens.
+-- Assumes nothing.
 use mathlib.Core.Path.{_∙_, sym, ap}
 use lib.ListN.{length, length-set}
 use Rattle.bank_slots_spec.proofs.MoveLaws.{moves-at}

@@ -1,4 +1,5 @@
--- Whether a run is being sent, as `look_flag` tells it.
+-- `bank_slots::looks::command_pending` meets its contract: whether a run is being sent, as `look_flag` tells it.
+-- Assumes nothing.
 use Rattle.bank_slots_spec.proofs.LookLaws.{pending-told}
 use borrow.Author.Needs.{needs}
 use Rattle.bank_slots.proofs.looks.command_pending.Statement.{statement}

@@ -1,4 +1,5 @@
--- A loop over all slots: those passed are copied, and the others are as they were.
+-- `bank_slots::looks::copy` meets its contract: a loop over all slots: those passed are copied, and the others are as they were.
+-- Assumes nothing.
 use mathlib.Core.Path.{_≡_, _∙_, refl}
 use mathlib.Core.List.{_++_}
 use Prim.Native.Nat.{_-_, _≤_, zero-le}

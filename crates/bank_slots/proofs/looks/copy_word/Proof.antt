@@ -1,4 +1,5 @@
--- A word read and written.
+-- `bank_slots::looks::copy_word` meets its contract: a word read and written.
+-- Assumes nothing.
 use mathlib.Core.Path.{_∙_, ap}
 use Prim.Native.Nat.{ℕ}
 use Rattle.bank_slots_spec.specs.Memory.{write, wordRows}

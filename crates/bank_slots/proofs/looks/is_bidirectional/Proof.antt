@@ -1,4 +1,5 @@
--- Whether the bank is bidirectional, as `look_flag` tells it.
+-- `bank_slots::looks::is_bidirectional` meets its contract: whether the bank is bidirectional, as `look_flag` tells it.
+-- Assumes nothing.
 use Rattle.bank_slots_spec.proofs.LookLaws.{bidirectional-told}
 use borrow.Author.Needs.{needs}
 use Rattle.bank_slots.proofs.looks.is_bidirectional.Statement.{statement}

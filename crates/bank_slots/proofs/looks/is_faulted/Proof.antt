@@ -1,4 +1,5 @@
--- Whether the bank is faulted, as `look_flag` tells it.
+-- `bank_slots::looks::is_faulted` meets its contract: whether the bank is faulted, as `look_flag` tells it.
+-- Assumes nothing.
 use Rattle.bank_slots_spec.proofs.LookLaws.{faulted-told}
 use borrow.Author.Needs.{needs}
 use Rattle.bank_slots.proofs.looks.is_faulted.Statement.{statement}

@@ -1,4 +1,5 @@
--- A lane's reply out of its slots.
+-- `bank_slots::looks::put_lane` meets its contract: a lane's reply out of its slots.
+-- Assumes nothing.
 use mathlib.Core.Path.{_∙_, ap}
 use mathlib.Core.List.{List}
 use Prim.Native.Nat.{ℕ}

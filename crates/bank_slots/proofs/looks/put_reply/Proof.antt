@@ -1,4 +1,5 @@
--- A reply in four slots: 0, its kind and its number, or the refusal's number and zeros.
+-- `bank_slots::looks::put_reply` meets its contract: a reply in four slots: 0, its kind and its number, or the refusal's number and zeros.
+-- Assumes nothing.
 use mathlib.Core.Path.{_≡_, _∙_, sym, ap}
 use Prim.Native.Nat.{ℕ, _<_}
 use native.Mathlib.Omega.{arith}

@@ -1,4 +1,5 @@
--- The counts of replies: refused, or a word after the other.
+-- `bank_slots::looks::reply_stats` meets its contract: the counts of replies: refused, or a word after the other.
+-- Assumes nothing.
 use mathlib.Core.Path.{_∙_}
 use native.Mathlib.Omega.{arith}
 use Rattle.dshot_bank_spec.specs.Calls.{reply-stats}

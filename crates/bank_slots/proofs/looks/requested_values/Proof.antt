@@ -1,4 +1,5 @@
--- The four values: refused, or told in four slots.
+-- `bank_slots::looks::requested_values` meets its contract: the four values: refused, or told in four slots.
+-- Assumes nothing.
 use native.Mathlib.Omega.{arith}
 use lib.ListN.{length-set}
 use Rattle.dshot_bank_spec.specs.Calls.{requested-values}

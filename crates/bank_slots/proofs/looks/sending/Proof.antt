@@ -1,4 +1,5 @@
--- A lane's sequence: refused, or copied out of the buffer that its mark names.
+-- `bank_slots::looks::sending` meets its contract: a lane's sequence: refused, or copied out of the buffer that its mark names.
+-- Assumes nothing.
 use mathlib.Core.Path.{_≡_, _∙_, refl, sym, ap}
 use mathlib.Core.Bool.{Bool, true, false}
 use mathlib.Core.List.{List}

@@ -1,4 +1,5 @@
--- The reply of a kind and a number, kind by kind.
+-- `bank_slots::looks::stored` meets its contract: the reply of a kind and a number, kind by kind.
+-- Assumes nothing.
 use mathlib.Core.Path.{sym, ap}
 use Prim.Native.Nat.{ℕ}
 use Rattle.bank_slots_spec.specs.Layout.{reply}

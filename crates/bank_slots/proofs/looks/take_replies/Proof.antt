@@ -1,4 +1,5 @@
--- The replies taken: refused, none told, or each lane's told and none held after.
+-- `bank_slots::looks::take_replies` meets its contract: the replies taken: refused, none told, or each lane's told and none held after.
+-- Assumes nothing.
 use mathlib.Core.Path.{_∙_, sym, ap}
 use Prim.Native.Nat.{ℕ}
 use native.Mathlib.Omega.{arith}

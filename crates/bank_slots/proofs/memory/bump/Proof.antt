@@ -1,4 +1,5 @@
--- One more in two slots.
+-- `bank_slots::memory::bump` meets its contract: one more in two slots.
+-- Assumes nothing.
 use mathlib.Core.Path.{_∙_, ap}
 use Prim.Native.Nat.{ℕ}
 use borrow.Author.Needs.{needs}

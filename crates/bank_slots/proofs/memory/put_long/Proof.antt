@@ -1,4 +1,5 @@
--- Four slots written, one after another.
+-- `bank_slots::memory::put_long` meets its contract: four slots written, one after another.
+-- Assumes nothing.
 use native.Mathlib.Omega.{arith}
 use lib.ListN.{length-set}
 use borrow.Author.Needs.{needs}

@@ -1,4 +1,5 @@
--- A loop over all slots: those passed hold 0, and the others are as they were.
+-- `bank_slots::memory::zero` meets its contract: a loop over all slots: those passed hold 0, and the others are as they were.
+-- Assumes nothing.
 use mathlib.Core.Path.{_≡_, refl, _∙_, ap}
 use mathlib.Core.List.{List, _++_, append-nil}
 use Prim.Native.Nat.{ℕ, _-_, _≤_, zero-le}

@@ -1,4 +1,5 @@
--- A reply counted in a lane's slots: the kind and number before it are not looked at.
+-- `bank_slots::replies::count_reply` meets its contract: a reply counted in a lane's slots: the kind and number before it are not looked at.
+-- Assumes nothing.
 use mathlib.Core.Path.{_∙_, ap}
 use Rattle.dshot_bank_spec.specs.State.{LaneReply}
 use Rattle.bank_slots_spec.specs.Memory.{at, write}

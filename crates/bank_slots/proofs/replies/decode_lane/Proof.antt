@@ -1,4 +1,5 @@
--- A lane's window read, and its reply counted.
+-- `bank_slots::replies::decode_lane` meets its contract: a lane's window read, and its reply counted.
+-- Assumes nothing.
 use mathlib.Core.Path.{_∙_, refl, sym, ap}
 use mathlib.Core.Bool.{false}
 use mathlib.Core.List.{List}

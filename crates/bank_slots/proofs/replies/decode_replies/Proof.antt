@@ -1,4 +1,5 @@
--- The four lanes read and counted, one after another.
+-- `bank_slots::replies::decode_replies` meets its contract: the four lanes read and counted, one after another.
+-- Assumes nothing.
 use Rattle.bank_slots_spec.proofs.ReplyMoves.{replies-decoded}
 use borrow.Author.Needs.{needs}
 use Rattle.bank_slots.proofs.replies.decode_replies.Statement.{statement}

@@ -1,4 +1,5 @@
--- A lane's record in its nine slots, one number after another.
+-- `bank_slots::replies::put_lane` meets its contract: a lane's record in its nine slots, one number after another.
+-- Assumes nothing.
 use mathlib.Core.Path.{_∙_, ap}
 use Prim.Native.Nat.{_+_}
 use native.Mathlib.Omega.{arith}

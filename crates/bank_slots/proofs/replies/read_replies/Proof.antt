@@ -1,4 +1,5 @@
--- The windows read, where they wait.
+-- `bank_slots::replies::read_replies` meets its contract: the windows read, where they wait.
+-- Assumes nothing.
 use mathlib.Core.Path.{_∙_, sym}
 use borrow.Author.Tests.{not-true, not-false}
 use Rattle.bank_slots_spec.proofs.ReplyMoves.{none-waits, windows-read}

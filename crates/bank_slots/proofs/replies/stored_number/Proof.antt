@@ -1,4 +1,5 @@
--- A stored reply's number, case by case.
+-- `bank_slots::replies::stored_number` meets its contract: a stored reply's number, case by case.
+-- Assumes nothing.
 use mathlib.Core.Path.{sym, ap}
 use Rattle.dshot_bank.specs.declared.StoredReply.{StoredReply}
 use Rattle.dshot_bank.specs.States.{storedAnswer}

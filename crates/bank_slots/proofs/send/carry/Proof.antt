@@ -1,4 +1,5 @@
--- A request that is carried, or none.
+-- `bank_slots::send::carry` meets its contract: a request that is carried, or none.
+-- Assumes nothing.
 use Rattle.bank_slots_spec.proofs.SendMoves.{none-carried, no-request, request-carried}
 use borrow.Author.Needs.{needs}
 use Rattle.bank_slots.proofs.send.carry.Statement.{statement}

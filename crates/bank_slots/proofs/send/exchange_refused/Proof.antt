@@ -1,4 +1,5 @@
--- An exchange that is refused: marks turned, and a fault latched.
+-- `bank_slots::send::exchange_refused` meets its contract: an exchange that is refused: marks turned, and a fault latched.
+-- Assumes nothing.
 use Rattle.bank_slots_spec.proofs.SendMoves.{exchange-refused}
 use borrow.Author.Needs.{needs}
 use Rattle.bank_slots.proofs.send.exchange_refused.Statement.{statement}

@@ -1,4 +1,5 @@
--- The slots of a frame set in flight.
+-- `bank_slots::send::fly` meets its contract: the slots of a frame set in flight.
+-- Assumes nothing.
 use native.Mathlib.Omega.{arith}
 use Rattle.bank_slots_spec.proofs.SendMoves.{flown-length, in-flight-length, in-flight}
 use borrow.Author.Needs.{needs}

@@ -1,4 +1,5 @@
--- A command's frame set, or an ordinary one.
+-- `bank_slots::send::frame_set` meets its contract: a command's frame set, or an ordinary one.
+-- Assumes nothing.
 use mathlib.Core.Path.{_∙_, sym, ap, subst}
 use Rattle.dshot_bank_spec.specs.Send.{FrameSet, frameSet}
 use Rattle.bank_slots_spec.specs.Layout.{load}

@@ -1,4 +1,5 @@
--- A frame set that starts: marks turned, in flight, and its request carried.
+-- `bank_slots::send::frame_started` meets its contract: a frame set that starts: marks turned, in flight, and its request carried.
+-- Assumes nothing.
 use Rattle.bank_slots_spec.proofs.SendMoves.{frame-starts}
 use borrow.Author.Needs.{needs}
 use Rattle.bank_slots.proofs.send.frame_started.Statement.{statement}

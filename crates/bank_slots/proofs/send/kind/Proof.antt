@@ -1,4 +1,5 @@
--- The kind of checksum, by the flag.
+-- `bank_slots::send::kind` meets its contract: the kind of checksum, by the flag.
+-- Assumes nothing.
 use mathlib.Core.Path.{_∙_, refl, sym}
 use Rattle.dshot_spec.specs.Packet.{plain, inverted}
 use Rattle.dshot_bank_spec.proofs.LaneLaws.{on, off}

@@ -1,4 +1,5 @@
--- The lanes that took their buffer, lane by lane.
+-- `bank_slots::send::lanes_taken` meets its contract: the lanes that took their buffer, lane by lane.
+-- Assumes nothing.
 use mathlib.Core.Path.{_∙_, sym, ap}
 use mathlib.Core.Bool.{not}
 use Rattle.bank_slots_spec.proofs.SendMoves.{taken-none, taken-one, taken-two, taken-three, taken-all}

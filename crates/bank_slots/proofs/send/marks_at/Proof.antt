@@ -1,4 +1,5 @@
--- The four marks, slot by slot.
+-- `bank_slots::send::marks_at` meets its contract: the four marks, slot by slot.
+-- Assumes nothing.
 use mathlib.Core.List.{[], _∷_}
 use Rattle.bank_slots_spec.specs.Layout.{load}
 use borrow.Author.Needs.{needs}

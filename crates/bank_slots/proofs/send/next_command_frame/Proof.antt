@@ -1,4 +1,5 @@
--- The next command: a run that is cancelled, no run, or a step of it.
+-- `bank_slots::send::next_command_frame` meets its contract: the next command: a run that is cancelled, no run, or a step of it.
+-- Assumes nothing.
 use Rattle.bank_slots_spec.proofs.SendMoves.{frame-cancelled, frame-none, frame-stepped}
 use borrow.Author.Needs.{needs}
 use Rattle.bank_slots.proofs.send.next_command_frame.Statement.{statement}

@@ -1,4 +1,5 @@
--- One lane's command, lane by lane.
+-- `bank_slots::send::one_lane` meets its contract: one lane's command, lane by lane.
+-- Assumes nothing.
 use mathlib.Core.Path.{_≡_, sym, ap}
 use Prim.Native.Nat.{ℕ}
 use native.Mathlib.Omega.{arith}

@@ -1,4 +1,5 @@
--- The orders of a refused exchange, lane by lane.
+-- `bank_slots::send::refused_orders` meets its contract: the orders of a refused exchange, lane by lane.
+-- Assumes nothing.
 use mathlib.Core.Path.{_≡_, sym, ap}
 use Prim.Native.Nat.{ℕ}
 use native.Mathlib.Omega.{arith}

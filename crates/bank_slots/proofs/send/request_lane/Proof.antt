@@ -1,4 +1,5 @@
--- The lane of a request, or none.
+-- `bank_slots::send::request_lane` meets its contract: the lane of a request, or none.
+-- Assumes nothing.
 use Rattle.bank_slots_spec.proofs.SendMoves.{no-lane, request-lane}
 use borrow.Author.Needs.{needs}
 use Rattle.bank_slots.proofs.send.request_lane.Statement.{statement}

@@ -1,4 +1,5 @@
--- A frame set: what is sent, the spares, and one of the two ends of the exchange.
+-- `bank_slots::send::send` meets its contract: a frame set: what is sent, the spares, and one of the two ends of the exchange.
+-- Assumes nothing.
 use mathlib.Core.Path.{_∙_}
 use Rattle.dshot_bank_spec.specs.State.{Buffers}
 use Rattle.bank_slots_spec.proofs.SendMoves.{packets-sent, duties-sent, spares-sent, sends-refused, sends-started}

@@ -1,4 +1,5 @@
--- A run's next command, and the run after it; a spent run is cleared.
+-- `bank_slots::send::step_run` meets its contract: a run's next command, and the run after it; a spent run is cleared.
+-- Assumes nothing.
 use mathlib.Core.Path.{ap}
 use native.Mathlib.Omega.{arith}
 use Rattle.dshot.specs.Answers.{commandOf, nextOf}

@@ -1,4 +1,5 @@
--- Fifteen slots filled one after another.
+-- `bank_slots::send::tell` meets its contract: fifteen slots filled one after another.
+-- Assumes nothing.
 use mathlib.Core.Path.{_∙_, sym}
 use mathlib.Core.List.{_∷_, _++_}
 use Rattle.dshot_spec.specs.Tabulate.{tabulate}

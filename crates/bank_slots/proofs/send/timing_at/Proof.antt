@@ -1,4 +1,5 @@
--- The timing, slot by slot.
+-- `bank_slots::send::timing_at` meets its contract: the timing, slot by slot.
+-- Assumes nothing.
 use mathlib.Core.Path.{refl}
 use Rattle.bank_slots_spec.specs.Layout.{load}
 use borrow.Author.Needs.{needs}

@@ -1,4 +1,5 @@
--- A mark that is turned where a test holds.
+-- `bank_slots::send::turn_mark` meets its contract: a mark that is turned where a test holds.
+-- Assumes nothing.
 use mathlib.Core.Path.{_∙_, refl, ap}
 use mathlib.Core.Bool.{Bool, not}
 use lib.ListN.{set}

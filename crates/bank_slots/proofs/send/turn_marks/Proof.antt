@@ -1,4 +1,5 @@
--- The marks of the four lanes, one after another.
+-- `bank_slots::send::turn_marks` meets its contract: the marks of the four lanes, one after another.
+-- Assumes nothing.
 use Rattle.bank_slots_spec.proofs.SendMoves.{marks-turned}
 use borrow.Author.Needs.{needs}
 use Rattle.bank_slots.proofs.send.turn_marks.Statement.{statement}

@@ -1,4 +1,5 @@
--- The four values, slot by slot.
+-- `bank_slots::send::values_at` meets its contract: the four values, slot by slot.
+-- Assumes nothing.
 use mathlib.Core.Path.{refl}
 use Rattle.bank_slots_spec.specs.Layout.{load}
 use borrow.Author.Needs.{needs}

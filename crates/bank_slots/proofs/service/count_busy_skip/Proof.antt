@@ -1,4 +1,5 @@
--- One more in the count of busy services.
+-- `bank_slots::service::count_busy_skip` meets its contract: one more in the count of busy services.
+-- Assumes nothing.
 use mathlib.Core.Path.{sym}
 use Rattle.bank_slots_spec.proofs.MoveLaws.{moves-at}
 use Rattle.bank_slots_spec.proofs.ServiceMoves.{busy-skip-counted}

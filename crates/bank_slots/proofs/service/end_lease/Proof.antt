@@ -1,4 +1,5 @@
--- A lease that lasts, and one that has ended.
+-- `bank_slots::service::end_lease` meets its contract: a lease that lasts, and one that has ended.
+-- Assumes nothing.
 use mathlib.Core.Path.{_∙_, sym}
 use borrow.Author.Tests.{not-true, not-false}
 use Rattle.bank_slots_spec.proofs.MoveLaws.{moves-at}

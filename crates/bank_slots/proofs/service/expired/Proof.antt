@@ -1,4 +1,5 @@
--- Whether a lease has expired, from its number, which is one above its duration.
+-- `bank_slots::service::expired` meets its contract: whether a lease has expired, from its number, which is one above its duration.
+-- Assumes nothing.
 use mathlib.Core.Path.{_∙_, sym, ap}
 use Prim.Native.Nat.{ℕ, _^_}
 use Rattle.dshot_spec.specs.Lease.{elapsed}

@@ -1,4 +1,5 @@
--- A service: faulted, with a frame in flight, or sending.
+-- `bank_slots::service::serve` meets its contract: a service: faulted, with a frame in flight, or sending.
+-- Assumes nothing.
 use mathlib.Core.Path.{_∙_, sym}
 use Rattle.dshot_bank_spec.specs.State.{Buffers}
 use Rattle.bank_slots_spec.proofs.ServiceMoves.{serve-faulted, serve-skips, serve-sends}

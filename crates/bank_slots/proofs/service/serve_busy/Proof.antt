@@ -1,4 +1,5 @@
--- A service while a frame is in flight: late, with a lease that has expired, or neither.
+-- `bank_slots::service::serve_busy` meets its contract: a service while a frame is in flight: late, with a lease that has expired, or neither.
+-- Assumes nothing.
 use mathlib.Core.Path.{_∙_, sym, ap}
 use Prim.Native.Nat.{ℕ}
 use Rattle.dshot_spec.specs.Lease.{leaseExpired}

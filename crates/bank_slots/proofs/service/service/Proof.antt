@@ -1,4 +1,5 @@
--- The call: its three promises, by one law a return.
+-- `bank_slots::service::service` meets its contract: the call: its three promises, by one law a return.
+-- Assumes nothing.
 use mathlib.Core.Path.{_∙_, sym}
 use borrow.Author.Tests.{not-true, not-false}
 use Rattle.dshot_bank.proofs.ReplyLaws.{three-fit}

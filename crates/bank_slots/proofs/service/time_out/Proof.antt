@@ -1,4 +1,5 @@
--- A frame that has timed out: its count, and the latched fault.
+-- `bank_slots::service::time_out` meets its contract: a frame that has timed out: its count, and the latched fault.
+-- Assumes nothing.
 use Rattle.bank_slots_spec.proofs.ServiceMoves.{timed-out}
 use borrow.Author.Needs.{needs}
 use Rattle.bank_slots.proofs.service.time_out.Statement.{statement}

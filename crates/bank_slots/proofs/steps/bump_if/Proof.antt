@@ -1,4 +1,5 @@
--- A count that is raised where a test holds.
+-- `bank_slots::steps::bump_if` meets its contract: a count that is raised where a test holds.
+-- Assumes nothing.
 use mathlib.Core.Path.{refl}
 use Rattle.dshot_bank_spec.proofs.LaneLaws.{on, off}
 use borrow.Author.Needs.{needs}

@@ -1,4 +1,5 @@
--- The request's slot cleared.
+-- `bank_slots::steps::clear_request` meets its contract: the request's slot cleared.
+-- Assumes nothing.
 use Rattle.bank_slots_spec.proofs.FaultMoves.{request-cleared}
 use borrow.Author.Needs.{needs}
 use Rattle.bank_slots.proofs.steps.clear_request.Statement.{statement}

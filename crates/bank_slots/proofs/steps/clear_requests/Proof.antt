@@ -1,4 +1,5 @@
--- The requests and a run cleared, one after another.
+-- `bank_slots::steps::clear_requests` meets its contract: the requests and a run cleared, one after another.
+-- Assumes nothing.
 use Rattle.bank_slots_spec.proofs.FaultMoves.{requests-cleared}
 use borrow.Author.Needs.{needs}
 use Rattle.bank_slots.proofs.steps.clear_requests.Statement.{statement}

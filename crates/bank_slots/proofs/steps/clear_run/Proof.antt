@@ -1,4 +1,5 @@
--- The slots of a run cleared.
+-- `bank_slots::steps::clear_run` meets its contract: the slots of a run cleared.
+-- Assumes nothing.
 use Rattle.bank_slots_spec.proofs.FaultMoves.{run-cleared}
 use native.Mathlib.Omega.{arith}
 use lib.ListN.{length-set}

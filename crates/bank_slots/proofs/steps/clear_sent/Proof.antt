@@ -1,4 +1,5 @@
--- The sent request's slot cleared.
+-- `bank_slots::steps::clear_sent` meets its contract: the sent request's slot cleared.
+-- Assumes nothing.
 use Rattle.bank_slots_spec.proofs.FaultMoves.{sent-cleared}
 use borrow.Author.Needs.{needs}
 use Rattle.bank_slots.proofs.steps.clear_sent.Statement.{statement}

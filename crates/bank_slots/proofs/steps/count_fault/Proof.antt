@@ -1,4 +1,5 @@
--- The counts of a fault.
+-- `bank_slots::steps::count_fault` meets its contract: the counts of a fault.
+-- Assumes nothing.
 use Rattle.bank_slots_spec.proofs.FaultMoves.{fault-counted}
 use mathlib.Core.Path.{refl}
 use borrow.Author.Needs.{needs}

@@ -1,4 +1,5 @@
--- A latched fault, part by part.
+-- `bank_slots::steps::latch_fault` meets its contract: a latched fault, part by part.
+-- Assumes nothing.
 use Rattle.bank_slots_spec.proofs.FaultMoves.{fault-latched}
 use borrow.Author.Needs.{needs}
 use Rattle.bank_slots.proofs.steps.latch_fault.Statement.{statement}

@@ -1,4 +1,5 @@
--- The flags of a latched fault.
+-- `bank_slots::steps::latch_flags` meets its contract: the flags of a latched fault.
+-- Assumes nothing.
 use Rattle.bank_slots_spec.proofs.FaultMoves.{flags-latched}
 use native.Mathlib.Omega.{arith}
 use lib.ListN.{length-set}

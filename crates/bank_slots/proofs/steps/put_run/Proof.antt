@@ -1,4 +1,5 @@
--- The slots of a run written.
+-- `bank_slots::steps::put_run` meets its contract: the slots of a run written.
+-- Assumes nothing.
 use Rattle.dshot.specs.Answers.{runOf}
 use Rattle.bank_slots_spec.proofs.FaultMoves.{run-put}
 use native.Mathlib.Omega.{arith}

@@ -1,4 +1,5 @@
--- The slots of a demand cleared.
+-- `bank_slots::steps::stop` meets its contract: the slots of a demand cleared.
+-- Assumes nothing.
 use Rattle.bank_slots_spec.proofs.FaultMoves.{stopped}
 use native.Mathlib.Omega.{arith}
 use lib.ListN.{length-set}
