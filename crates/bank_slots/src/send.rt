@@ -366,7 +366,8 @@ pub(crate) fn send(
     let values = set.values;
     let lane = set.telemetry_lane;
     let packets = dshot::packets_of_kind(kind(state), values, lane);
-    let duties = encode_spares(first, second, marks_at(state), packets, timing_at(state));
+    let spares = encode_spares(first, second, marks_at(state), packets, timing_at(state));
+    let duties = spares.first_duties;
     let refusing = lanes_taken(lanes);
     if refusing < LANES {
         exchange_refused(state, refusing);

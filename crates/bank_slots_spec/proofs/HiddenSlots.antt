@@ -31,6 +31,7 @@ parts n i a a′ t t′ l l′ front back = side (decLt i n)
   where
     behind : (x y : List ℕ) → length x ≡ n → n ≤ i → at (x ++ y) i ≡ at y (i - n)
     behind x y h p = ap (at (x ++ y)) (omega arith) ∙ getD-append-add x y (i - n) 0
+
     side : Dec (i < n) → at (a ++ t) i ≡ at (a′ ++ t′) i
     side (yes p) = List·getD-append a t 0 i (omega arith) ∙ front p ∙ sym (List·getD-append a′ t′ 0 i (omega arith))
     side (no q) = let p : n ≤ i = omega arith in behind a t l p ∙ back p ∙ sym (behind a′ t′ l′ p)
@@ -90,16 +91,22 @@ counts-told lane r i h =
   where
     a : List ℕ
     a = r .valid
+
     b : List ℕ
     b = r .invalid
+
     c : List ℕ
     c = r .consecutiveInvalid
+
     a′ : List ℕ
     a′ = set a lane 0
+
     b′ : List ℕ
     b′ = set b lane 0
+
     c′ : List ℕ
     c′ = set c lane 0
+
     last : 8 ≤ i - 8 → Dec (i - 8 - 8 < 8) → at (told c′) (i - 8 - 8) ≡ at (told c) (i - 8 - 8)
     last q (yes d) = count-told lane c (i - 8 - 8) (λ w. h (subst (Within (2 * lane) 2) (omega arith) w))
     last q (no d) = List·getD-eq-default (told c′) 0 {n = i - 8 - 8} (omega arith) ∙ sym (List·getD-eq-default (told c) 0 {n = i - 8 - 8} (omega arith))

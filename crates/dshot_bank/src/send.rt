@@ -32,7 +32,7 @@ ghost use mathlib.Core.Path.{_≡_};
 ghost use mathlib.Core.Bool.{not};
 ghost use Prim.Native.Nat.{_*_, _<_};
 ghost use lib.ListN.{length, set, replicate};
-ghost use Rattle.dshot_reply_spec.specs.Answer.{pick};
+ghost use Rattle.dshot_reply_spec.specs.Answer.{pick, wrongLength};
 ghost use Rattle.dshot_spec.specs.Sequence.{sequenceOf};
 ghost use Rattle.dshot.specs.Answers.{kindOf, laneOf, words, timingOf, commandOf, runOf};
 ghost use Rattle.dshot_bank_spec.specs.Lanes.{position};
@@ -62,6 +62,12 @@ pub(crate) struct FrameSet {
     pub values: MotorValues,
     pub telemetry_lane: TelemetryLane,
     pub telemetry_request: MotorChoice,
+}
+
+// The first duties of the sequences that were written, and 0; or the number of a refusal, and zeros.
+pub struct Spares {
+    pub refusal: u32,
+    pub first_duties: MotorValues,
 }
 
 // Whether a frame set started, with the orders, the first duties and the core after it.
@@ -302,21 +308,29 @@ fn encode_lanes(
     duties
 }
 
-// The same for any two buffers: where one has another length nothing is written, and the duties are zeros.
+// The same for any two buffers: one of another length is refused with 13, and nothing is written.
 pub fn encode_spares(
     first: &mut [u16],
     second: &mut [u16],
     in_second: LaneFlags,
     packets: MotorPackets,
     timing: DshotTiming,
-) -> MotorValues
-    ensures { λ r. ⌜ r ≡ pick (slotsFit 4 (length (now (first .entry))) (length (now (second .entry)))) (firstDuties 4 (timingOf timing) (words packets)) (replicate 4 0) ⌝ }
+) -> Spares
+    ensures { λ r. ⌜ r .refusal ≡ pick (slotsFit 4 (length (now (first .entry))) (length (now (second .entry)))) 0 wrongLength ⌝ }
+    ensures { λ r. ⌜ r .«first_duties» ≡ pick (slotsFit 4 (length (now (first .entry))) (length (now (second .entry)))) (firstDuties 4 (timingOf timing) (words packets)) (replicate 4 0) ⌝ }
     ensures { λ r. ⌜ _≡_ {A = Buffers} (record { first = now (first .exit); second = now (second .exit) }) (pick (slotsFit 4 (length (now (first .entry))) (length (now (second .entry)))) (encodeLanes 4 (timingOf timing) «in_second» (words packets) (record { first = now (first .entry); second = now (second .entry) })) (record { first = now (first .entry); second = now (second .entry) })) ⌝ }
 {
     if !buffers_fit(first.len(), second.len()) {
-        return [0; LANES];
+        return Spares {
+            refusal: 13,
+            first_duties: [0; LANES],
+        };
     }
-    encode_lanes(first, second, in_second, packets, timing)
+    let first_duties = encode_lanes(first, second, in_second, packets, timing);
+    Spares {
+        refusal: 0,
+        first_duties,
+    }
 }
 
 // ---- the exchange

@@ -72,7 +72,7 @@ returns c =
     let m = motorCommandOf (n .next-command-frame .result) in
     let b : Buffers = record { first = a .first .now; second = a .second .now } in
     let packets = packets-sent (a .state .now) _ m s (k .before .kind .ensures) (f .ensures .values) (f .ensures .lane) (k .packets-of-kind .ensures) in
-    let spares = spares-sent (a .state .now) _ m s b (p .2) (p .3) (e .before .timing-at .ensures) packets (e .before .before .before .marks-at .ensures) (e .encode-spares .ensures .1) in
+    let spares = spares-sent (a .state .now) _ m s b (p .2) (p .3) (e .before .timing-at .ensures) packets (e .before .before .before .marks-at .ensures) (e .encode-spares .ensures .1 .1) in
     sends-refused (a .state .now) _ m s (a .now-ms) (a .lease-expired) (a .lanes .now) b spares (d .lanes-taken .result) (d .lanes-taken .ensures) (c .before .before .before .before .before .before .before .before .before .if1 .taken) (c .before .before .before .before .before .before .before .exchange-refused .ensures) (c .before .before .before .refused-orders .ensures) (c .before .before .tell .ensures)
 
 frame-started-requires : tie.Need-frame-started-requires
@@ -109,8 +109,8 @@ returns-2 c =
     let m = motorCommandOf (n .next-command-frame .result) in
     let b : Buffers = record { first = a .first .now; second = a .second .now } in
     let packets = packets-sent (a .state .now) _ m s (k .before .kind .ensures) (f .ensures .values) (f .ensures .lane) (k .packets-of-kind .ensures) in
-    let spares = spares-sent (a .state .now) _ m s b (p .2) (p .3) (e .before .timing-at .ensures) packets (e .before .before .before .marks-at .ensures) (e .encode-spares .ensures .1) in
-    let duties = duties-sent (a .state .now) _ m s b (p .2) (p .3) (e .before .timing-at .ensures) packets (e .encode-spares .ensures .0) in
+    let spares = spares-sent (a .state .now) _ m s b (p .2) (p .3) (e .before .timing-at .ensures) packets (e .before .before .before .marks-at .ensures) (e .encode-spares .ensures .1 .1) in
+    let duties = duties-sent (a .state .now) _ m s b (p .2) (p .3) (e .before .timing-at .ensures) packets (e .encode-spares .ensures .1 .0) in
     sends-started (a .state .now) _ m s (a .now-ms) (a .lease-expired) (a .lanes .now) b spares (f .result .ordinary) (d .lanes-taken .ensures) (c .before .before .before .before .before .before .before .before .before .if1 .left) (f .ensures .request) (c .before .before .before .before .before .before .before .frame-started .ensures) (c .before .before .before .sent-event .ensures) duties (c .before .before .tell2 .ensures)
 
 pub send-spec : {M : Type 1} → statement M

@@ -3,6 +3,7 @@
 use mathlib.Core.Path.{_∙_, refl, sym}
 use lib.ListN.{replicate}
 use borrow.Author.Tests.{not-true, not-false}
+use Rattle.dshot_reply_spec.specs.Answer.{wrongLength}
 use Rattle.dshot.specs.Answers.{words, timingOf}
 use Rattle.dshot_bank_spec.specs.Send.{firstDuties}
 use Rattle.dshot_bank_spec.proofs.LaneLaws.{on, off}
@@ -18,7 +19,7 @@ returns : tie.Need-returns
 returns c =
     let a = c .before .before .before .before .args in
     let misfit = sym (c .before .buffers-fit .ensures) ∙ not-true _ (c .if1 .taken) in
-    (off (firstDuties 4 (timingOf (a .timing)) (words (a .packets))) (replicate 4 0) misfit refl, off _ _ misfit refl)
+    (off 0 wrongLength misfit refl, (off (firstDuties 4 (timingOf (a .timing)) (words (a .packets))) (replicate 4 0) misfit refl, off _ _ misfit refl))
 
 encode-lanes-requires : tie.Need-encode-lanes-requires
 encode-lanes-requires c κs = two-fit _ _ (sym (c .before .before .before .buffers-fit .ensures) ∙ not-false _ (c .before .before .if1 .left))
@@ -33,7 +34,7 @@ returns-2 : tie.Need-returns-2
 returns-2 c =
     let fit = sym (c .before .before .before .before .before .before .before .before .buffers-fit .ensures) ∙ not-false _ (c .before .before .before .before .before .before .before .if1 .left) in
     let made = c .before .before .before .before .encode-lanes .ensures in
-    (on _ _ fit (made .0), on _ _ fit (made .1))
+    (on 0 wrongLength fit refl, (on _ _ fit (made .0), on _ _ fit (made .1)))
 
 pub encode-spares-spec : {M : Type 1} → statement M
 encode-spares-spec =
