@@ -46,7 +46,7 @@ module _ (now : ℕ) (xs : List ℕ) where
   unfolding load demandExpired
   no-lease e = sym (ap isExpired e)
 
-  pub lease-over : (over passed : ℕ) → over ≡ Memory.long LEASE-OVER (at xs) → (over ≡ 0 → ⊥) → passed ≡ elapsed (Memory.long LEASE-STARTED (at xs)) now
+  pub lease-over : (over passed : ℕ) → over ≡ Memory.long LEASE-OVER (at xs) → (over ≡ 0 → ⊥) → passed ≡ elapsed 64 (Memory.long LEASE-STARTED (at xs)) now
       → leb over passed ≡ demandExpired now (load xs .core .demand)
   unfolding load demandExpired leaseExpired
   lease-over over passed e h p =

@@ -4,7 +4,7 @@
 -- crates/ferrowasp-stm32-critical/src/dshot_bank.rs (Eirik2020/ferro-wasp, commit 9cb8aca1a6, Copyright (c) 2026 Kaldstrand, Apache-2.0),
 -- changed: rewritten as definitions, over n lanes.
 -- Assumes nothing.
-use Prim.Native.Nat.{ℕ, _+_, _-_, _%_, _^_}
+use Prim.Native.Nat.{ℕ}
 use mathlib.Core.Bool.{Bool, true, false, not}
 use mathlib.Core.List.{List}
 use mathlib.Core.Option.{Option, none, some}
@@ -12,6 +12,7 @@ use lib.Dec.{ltb, leb}
 use lib.ListN.{replicate}
 use Rattle.dshot_reply_spec.specs.Answer.{Answer, given, refused, noReply}
 use Rattle.dshot_spec.specs.Timing.{Timing}
+use Rattle.dshot_spec.specs.Lease.{elapsed}
 use Rattle.dshot_spec.specs.Throttle.{throttleValues}
 use Rattle.dshot_spec.specs.Command.{CommandRun, Command, send, nextValue}
 use Rattle.dshot_spec.specs.Command as Command
@@ -117,4 +118,4 @@ clearRequestSent c = withTelemetry (record { request = c .telemetry .request; re
 
 -- whether no frame set was released for two milliseconds, on a clock of 32 bits that may wrap
 unfoldable pub fallbackReleaseDue : ℕ → ℕ → Bool
-fallbackReleaseDue now lastRelease = leb 2 ((now + (2 ^ 32 - lastRelease)) % 2 ^ 32)
+fallbackReleaseDue now lastRelease = leb 2 (elapsed 32 lastRelease now)

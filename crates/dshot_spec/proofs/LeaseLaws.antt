@@ -12,11 +12,11 @@ use Rattle.dshot_spec.specs.Lease.{elapsed, leaseExpired}
 
 module _ (started duration now : ℕ) (small : started < 2 ^ 64) (clock : now < 2 ^ 64) where
   -- a clock at or after the start: the time that has passed
-  passed : started ≤ now → elapsed started now ≡ now - started
+  passed : started ≤ now → elapsed 64 started now ≡ now - started
   passed h = let e : now + (2 ^ 64 - started) ≡ 1 * 2 ^ 64 + (now - started) = omega arith in ap (λ (n : ℕ). n % 2 ^ 64) e ∙ digits-mod 1 {m = 2 ^ 64} {r = now - started} (omega arith)
 
   -- a clock before it: the time until the clock would wrap to it
-  wrapped : now < started → elapsed started now ≡ now + (2 ^ 64 - started)
+  wrapped : now < started → elapsed 64 started now ≡ now + (2 ^ 64 - started)
   wrapped h = mod-eq-of-lt (omega arith)
 
   -- a later clock is expired once more than the lease has passed

@@ -6,10 +6,10 @@ use Prim.Native.Nat.{ℕ, _+_, _-_, _%_, _^_}
 use mathlib.Core.Bool.{Bool}
 use lib.Dec.{ltb}
 
--- the time from `started` to `now`
-abbrev pub elapsed : ℕ → ℕ → ℕ
-elapsed started now = (now + (2 ^ 64 - started)) % 2 ^ 64
+-- the time from `started` to `now`: wrapping subtraction of clocks of so many bits, the Rust's `wrapping_sub`
+abbrev pub elapsed : ℕ → ℕ → ℕ → ℕ
+elapsed bits started now = (now + (2 ^ bits - started)) % 2 ^ bits
 
 -- a clock before the start counts as expired, but where the subtraction wraps into the lease
 unfoldable pub leaseExpired : ℕ → ℕ → ℕ → Bool
-leaseExpired started duration now = ltb duration (elapsed started now)
+leaseExpired started duration now = ltb duration (elapsed 64 started now)

@@ -28,7 +28,7 @@ returns-2 c =
     let a = c .before .before .before .before .before .args in
     let started = c .before .long-at2 .result in
     let passed = wrapped (2 ^ 64) (a .now-ms) started (c .wrapping-sub-u64 .result) (search needs) (search needs) (c .wrapping-sub-u64 .ensures) in
-    lease-over (a .now-ms) (a .state .now) (c .before .before .before .long-at .result) (c .wrapping-sub-u64 .result) (c .before .before .before .long-at .ensures) (c .before .before .if1 .left) (passed ∙ ap (λ (s : ℕ). elapsed s (a .now-ms)) (c .before .long-at2 .ensures))
+    lease-over (a .now-ms) (a .state .now) (c .before .before .before .long-at .result) (c .wrapping-sub-u64 .result) (c .before .before .before .long-at .ensures) (c .before .before .if1 .left) (passed ∙ ap (λ (s : ℕ). elapsed 64 s (a .now-ms)) (c .before .long-at2 .ensures))
 
 pub expired-spec : {M : Type 1} → statement M
 expired-spec =
