@@ -26,6 +26,7 @@ use Rattle.dshot_reply_spec.specs.Edt.{edtReply, isSpeed, typed}
 use Rattle.dshot_reply_spec.specs.Gcr.{checksum, decodeWord, fromNibbles, nibbleAt, replyNibble, replyWord, symbolAt, symbolOf}
 use Rattle.dshot_reply_spec.specs.Move.{bit, wordValue}
 use Rattle.dshot_reply_spec.specs.Simulate.{bitLevels, nextLevel}
+use Rattle.dshot_reply_spec.specs.Nearest as Nearest
 use Rattle.dshot_reply_spec.specs.Value.{Reading, readingOf, replyOf, speedOf, speedValue}
 
 -- ---- functions by their values at the numbers below a bound, the highest first
@@ -170,7 +171,7 @@ decoded w v e =
 -- ---- 6: the readings
 
 -- to add half of the divisor rounds to the nearest
-rounded : (a p : ℕ) → (a + p / 2) / p ≡ nearest a p
+rounded : (a p : ℕ) → Nearest.nearest a p ≡ nearest a p
 rounded a p =
     let e : a + p / 2 ≡ (2 * a + p) / 2 = omega arith in
     ap (λ (n : ℕ). n / p) e ∙ div-div-eq-div-mul (2 * a + p) 2 p

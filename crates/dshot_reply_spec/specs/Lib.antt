@@ -1,6 +1,7 @@
 pub mod Answer
 pub mod Gcr
 pub mod Runs
+pub mod Nearest
 pub mod Value
 pub mod Kind
 pub mod Reading

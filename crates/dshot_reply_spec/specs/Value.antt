@@ -3,10 +3,11 @@
 -- Stands for `DshotReply::from_value` of crates/ferrowasp-output/src/dshot_reply.rs (Eirik2020/ferro-wasp, commit
 -- 9cb8aca1a6, Copyright (c) 2026 Kaldstrand, Apache-2.0), changed: rewritten as a definition.
 -- Assumes nothing.
-use Prim.Native.Nat.{ℕ, _+_, _-_, _*_, _/_, _%_, _^_}
+use Prim.Native.Nat.{ℕ, _-_, _*_, _/_, _%_, _^_}
 use mathlib.Core.Bool.{Bool, not, _&&_, _||_}
 use lib.Dec.{eqb}
 use Rattle.dshot_reply_spec.specs.Answer.{Answer, given, refused, pick, zeroPeriod}
+use Rattle.dshot_reply_spec.specs.Nearest.{nearest}
 
 -- the kinds of reading, by the words that the bench's line has for them, with the number read; `debug` has its channel first
 pub data Reading : Type 0 where
@@ -20,7 +21,7 @@ pub data Reading : Type 0 where
 
 -- eRPM / 100 of a period in microseconds, halves up
 unfoldable pub speedOf : ℕ → Answer Reading
-speedOf period = pick (eqb period 0) (refused zeroPeriod) (given (erpm ((600000 + period / 2) / period)))
+speedOf period = pick (eqb period 0) (refused zeroPeriod) (given (erpm (nearest 600000 period)))
 
 -- a period is the lowest nine bits, shifted left by the top three: 0xFFF is a stopped rotor
 unfoldable pub speedValue : ℕ → Answer Reading

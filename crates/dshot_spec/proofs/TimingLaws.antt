@@ -8,8 +8,9 @@ use lib.Dec.{eqb, ltb, lit<}
 use mathlib.Core.Bool.{Bool, true, false}
 use borrow.Author.Tests.{eqb-false, ltb-false}
 use Rattle.dshot_reply_spec.specs.Answer.{given, periodTooLong, periodTooShort, zeroBitrate, zeroTimerClock}
+use Rattle.dshot_reply_spec.specs.Nearest.{nearest}
 use Rattle.dshot_spec.proofs.Given.{second-given}
-use Rattle.dshot_spec.specs.Timing.{ClocksGiven, Timing, dutyForBit, fromClocks, nearest, replySampleHz}
+use Rattle.dshot_spec.specs.Timing.{ClocksGiven, Timing, dutyForBit, fromClocks, replySampleHz}
 use Rattle.dshot_spec.specs.Betaflight.{NearestTick, highEighths}
 
 -- ---- quotients to the nearest
@@ -54,7 +55,7 @@ sample-period-fits s clock bitrate h l = nearest-falls 65536 clock bitrate (repl
 -- ---- a timing that is given
 
 -- no high time is zero or as long as the period, and that of a 1 is the longer
-pub high-times : (p : ℕ) → 4 ≤ p → (0 < (3 * p + 4) / 8) × ((3 * p + 4) / 8 < (3 * p + 2) / 4) × ((3 * p + 2) / 4 < p)
+pub high-times : (p : ℕ) → 4 ≤ p → (0 < nearest (3 * p) 8) × (nearest (3 * p) 8 < nearest (3 * p) 4) × (nearest (3 * p) 4 < p)
 high-times p h = omega arith
 
 -- a timing is given only for clocks that are not zero and periods that can be timed, and has their counts

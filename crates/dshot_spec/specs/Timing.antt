@@ -2,11 +2,12 @@
 -- Stands for `DshotTiming` of crates/ferrowasp-output/src/dshot.rs (Eirik2020/ferro-wasp, commit 9cb8aca1a6, Copyright (c) 2026 Kaldstrand,
 -- Apache-2.0), changed: rewritten as a definition, with document 01's formulas.
 -- Assumes nothing.
-use Prim.Native.Nat.{ℕ, _+_, _-_, _*_, _/_, _<_, _≤_}
+use Prim.Native.Nat.{ℕ, _-_, _*_, _/_, _<_, _≤_}
 use mathlib.Core.Path.{_≡_}
 use mathlib.Core.Bool.{Bool}
 use lib.Dec.{eqb, ltb}
 use Rattle.dshot_reply_spec.specs.Answer.{Answer, given, refused, pick, zeroTimerClock, zeroBitrate, periodTooShort, periodTooLong}
+use Rattle.dshot_reply_spec.specs.Nearest.{nearest}
 
 -- the counts of `DshotTiming`: the period less one, the high times of a 0 and of a 1, and the period of reply samples less one
 pub record Timing : Type 0 where
@@ -15,17 +16,13 @@ pub record Timing : Type 0 where
   pub oneHigh : ℕ
   pub replySampleArr : ℕ
 
--- a quotient to the nearest, halves up
-abbrev pub nearest : ℕ → ℕ → ℕ
-nearest a b = (a + b / 2) / b
-
 -- how often replies are sampled, s times a bit: they come at 5/4 of the bit rate
 abbrev pub replySampleHz : ℕ → ℕ → ℕ
 replySampleHz s bitrate = bitrate * (5 * s) / 4
 
 -- the counts of a period p and a reply sample period q
 abbrev pub countsOf : ℕ → ℕ → Timing
-countsOf p q = record { arr = p - 1; zeroHigh = (3 * p + 4) / 8; oneHigh = (3 * p + 2) / 4; replySampleArr = q - 1 }
+countsOf p q = record { arr = p - 1; zeroHigh = nearest (3 * p) 8; oneHigh = nearest (3 * p) 4; replySampleArr = q - 1 }
 
 -- the counts of periods p and q, or why they cannot be timed
 abbrev pub timed : ℕ → ℕ → Answer Timing

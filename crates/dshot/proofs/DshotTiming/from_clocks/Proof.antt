@@ -1,11 +1,12 @@
 -- `dshot::DshotTiming::from_clocks` meets its contract: each refusal by its test, and the counts without a bit cut off.
 -- Assumes nothing.
 use mathlib.Core.Path.{_≡_, _∙_}
-use Prim.Native.Nat.{_+_, _*_, _/_, _<_, _≤_}
+use Prim.Native.Nat.{_*_, _<_, _≤_}
 use native.Mathlib.Omega.{arith}
 use lib.Dec.{lit<}
 use borrow.Author.Tests.{eq-eqb, ne-eqb, lt-ltb, le-ltb}
-use Rattle.dshot_spec.specs.Timing.{fromClocks, nearest}
+use Rattle.dshot_reply_spec.specs.Nearest.{nearest}
+use Rattle.dshot_spec.specs.Timing.{fromClocks}
 use Rattle.dshot_spec.proofs.TimingLaws.{sample-period-fits}
 use Rattle.dshot.proofs.ClockLaws.{clocked}
 use borrow.Author.Needs.{needs}
@@ -102,8 +103,8 @@ returns-6 c =
     let p = nearest (a .timer-hz) (a .bitrate-hz) in
     let l : 4 ≤ p = rw (← d) (c .before .before .before .before .if3 .left) in
     let m : p ≤ 65536 = rw (← d) (c .before .before .before .if4 .left) in
-    let z : c .before .div-round2 .result ≡ (3 * p + 4) / 8 = c .before .div-round2 .ensures ∙ rw d (omega arith) in
-    let o : c .div-round3 .result ≡ (3 * p + 2) / 4 = c .div-round3 .ensures ∙ rw d (omega arith) in
+    let z : c .before .div-round2 .result ≡ nearest (3 * p) 8 = c .before .div-round2 .ensures ∙ rw d (omega arith) in
+    let o : c .div-round3 .result ≡ nearest (3 * p) 4 = c .div-round3 .ensures ∙ rw d (omega arith) in
     clocked 3 (a .timer-hz) (a .bitrate-hz) (omega arith) (omega arith)
     (simp (le-ltb _ _ l, le-ltb _ _ m, le-ltb _ _ (c .before .before .if5 .left), d, z, o))
 
