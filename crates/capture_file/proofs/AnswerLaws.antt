@@ -4,9 +4,8 @@ use mathlib.Core.Path.{_≡_, refl, sym}
 use mathlib.Core.Bool.{Bool, true, false}
 use Prim.Native.Nat.{ℕ}
 use native.Mathlib.Omega.{arith}
-use Rattle.dshot_reply_spec.specs.Answer.{Answer, given, refused, then, pick, notACapture}
+use Rattle.dshot_reply_spec.specs.Answer.{Answer, given, refused, then, pick, isGiven, notACapture}
 use Rattle.dshot_reply_spec.proofs.Choice.{not-first}
-use Rattle.capture_file.specs.FileSteps.{isGiven}
 
 -- an answer is not refused and given at once
 pub no-answer : {A : Type 0} {n : ℕ} {x : A} → refused n ≡ given x → ⊥

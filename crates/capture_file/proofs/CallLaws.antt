@@ -9,7 +9,7 @@ use lib.Dec.{eqb, ltb}
 use lib.ListN.{length}
 use borrow.Author.Tests.{eq-eqb, ne-eqb, lt-ltb, le-ltb, ltb-false}
 use Rattle.dshot_reply_spec.proofs.Choice.{not-first, not-second}
-use Rattle.dshot_reply_spec.specs.Answer.{Answer, given, refused, then, notACapture, wrongLength, filled}
+use Rattle.dshot_reply_spec.specs.Answer.{Answer, given, refused, then, isGiven, notACapture, wrongLength, filled}
 use Rattle.capture_file.proofs.AnswerLaws.{no-answer, same-given, then-given, not-given, is-given}
 use Rattle.capture_file.proofs.AnswerLaws.{Read, found, lacking, read-then, read-pick}
 use Rattle.capture_file.proofs.HeadLaws.{head-few}
@@ -18,7 +18,7 @@ use Rattle.capture_file.proofs.ReadLaws.{groups-start}
 use Rattle.capture_file.proofs.WriteLaws.{put-first}
 use Rattle.capture_file.specs.File.{captureSamples, captureFileBytes, readNumber, readAll, Capture, capture, Head, readHead, readFile}
 use Rattle.capture_file.specs.File.{fileOf, front, slotsOf, readInto, writtenInto, Told, told, byteCount}
-use Rattle.capture_file.specs.FileSteps.{put, isGiven}
+use Rattle.capture_file.specs.FileSteps.{put}
 
 -- ---- every refusal of bytes has the same number
 

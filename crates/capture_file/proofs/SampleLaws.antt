@@ -11,12 +11,12 @@ use lib.Dec.{leb}
 use lib.ListN.{length, drop, set, length-set, drop-of-length-le}
 use lib.Seq.{drop-cons}
 use borrow.Author.Tests.{le-leb, lt-leb}
-use Rattle.dshot_reply_spec.specs.Answer.{Answer, given, refused, then, notACapture, filled}
+use Rattle.dshot_reply_spec.specs.Answer.{Answer, given, refused, then, isGiven, notACapture, filled}
 use Rattle.dshot_reply_spec.proofs.Cases.{lt-or-ge}
 use Rattle.capture_file.proofs.AnswerLaws.{no-answer, same-given, then-given, is-given}
 use Rattle.capture_file.proofs.WriteLaws.{put-one, put-put, put-none, put-first}
 use Rattle.capture_file.specs.File.{Headed, headed, readNumber, readAll, front}
-use Rattle.capture_file.specs.FileSteps.{put, isGiven}
+use Rattle.capture_file.specs.FileSteps.{put}
 
 -- ---- the next sample that is read
 

@@ -1,7 +1,6 @@
 -- What the steps of reading and writing a capture file do, for the contracts of private functions. No public promise cites these.
 -- Assumes nothing.
 use Prim.Native.Nat.{ℕ, _+_}
-use mathlib.Core.Bool.{Bool, true, false}
 use mathlib.Core.List.{List, _++_}
 use lib.ListN.{length, take, drop}
 use Rattle.dshot_reply_spec.specs.Answer.{Answer, given, refused, notACapture}
@@ -24,8 +23,3 @@ numberAnswer bytes NotANumber = refused notACapture
 abbrev pub headAnswer : List ℕ → HeadRead → Answer Head
 headAnswer bytes (Start.Head count mask edt next) = given (record { count = count; mask = mask; edt = edt; rest = drop next bytes })
 headAnswer bytes Start.NotACapture = refused notACapture
-
--- whether something was given
-abbrev pub isGiven : {A : Type 0} → Answer A → Bool
-isGiven (given a) = true
-isGiven (refused n) = false

@@ -7,10 +7,10 @@ ghost use mathlib.Core.Path.{_≡_};
 ghost use mathlib.Core.Bool.{true};
 ghost use Prim.Native.Nat.{_+_, _≤_};
 ghost use lib.ListN.{length, drop};
-ghost use Rattle.dshot_reply_spec.specs.Answer.{then, pick, filled};
+ghost use Rattle.dshot_reply_spec.specs.Answer.{then, pick, isGiven, filled};
 ghost use Rattle.capture_file.specs.File.{allGroups, capture, readHead, readAll, front, slotsOf, readInto, writtenInto, told, byteCount};
 ghost use Rattle.capture_file.specs.FileAnswers.{readAnswer, writtenAnswer};
-ghost use Rattle.capture_file.specs.FileSteps.{put, headAnswer, isGiven};
+ghost use Rattle.capture_file.specs.FileSteps.{put, headAnswer};
 
 // The most samples that a file holds.
 pub const CAPTURE_SAMPLES: usize = 4096;

@@ -18,9 +18,10 @@ ghost use mathlib.Core.Path.{_≡_};
 ghost use Prim.Native.Nat.{_*_};
 ghost use mathlib.Core.Bool.{false};
 ghost use lib.ListN.{length, replicate};
+ghost use Rattle.dshot_reply_spec.specs.Answer.{isGiven};
 ghost use Rattle.dshot_reply.specs.Answers.{replyAnswer};
 ghost use Rattle.dshot_bank_spec.specs.State.{Buffers};
-ghost use Rattle.dshot_bank_spec.specs.Replies.{wrappingAdd, saturatingAdd, readWindow, isOk, countReply, decodeReplies};
+ghost use Rattle.dshot_bank_spec.specs.Replies.{wrappingAdd, saturatingAdd, readWindow, countReply, decodeReplies};
 ghost use Rattle.dshot_bank_spec.specs.Service.{readReplies};
 ghost use Rattle.dshot_bank_spec.specs.Calls as Call;
 ghost use Rattle.dshot_bank_spec.specs.Calls.{step, reply-counts};
@@ -118,7 +119,7 @@ impl StoredReply {
     }
 
     fn is_ok(self) -> bool
-        ensures { λ r. ⌜ r ≡ isOk (storedAnswer self) ⌝ }
+        ensures { λ r. ⌜ r ≡ isGiven (storedAnswer self) ⌝ }
     {
         match self {
             StoredReply::Erpm(_) => true,

@@ -7,14 +7,14 @@ use mathlib.Core.List.{List}
 use lib.Dec.{ltb}
 use lib.ListN.{getD}
 use Rattle.dshot_reply_spec.proofs.Choice.{not-first}
-use Rattle.dshot_reply_spec.specs.Answer.{pick}
+use Rattle.dshot_reply_spec.specs.Answer.{pick, isGiven}
 use Rattle.dshot_reply_spec.specs.Answer as Reply
 use Rattle.dshot_reply_spec.specs.Value.{Reading}
 use Rattle.dshot_spec.proofs.Tabulated.{getD-tabulate}
 use Rattle.dshot_bank_spec.specs.Lanes.{position}
 use Rattle.dshot_bank_spec.specs.State.{Frame, Core, LaneReply, Buffers}
 use Rattle.dshot_bank_spec.specs.Commands.{noReplies, commandStop, clearRequestSent}
-use Rattle.dshot_bank_spec.specs.Replies.{countReply, isOk, decodeLane, decodeReplies}
+use Rattle.dshot_bank_spec.specs.Replies.{countReply, decodeLane, decodeReplies}
 use Rattle.dshot_bank_spec.specs.Send.{Sent, latchFault, exchangeRefused, exchangeBuffers, frameStarted, sendRequested}
 use Rattle.dshot_bank_spec.specs.Service.{Served, repliesRead, readReplies, serviceCore}
 use Rattle.dshot_bank_spec.specs.Calls.{service-call, State, Stepped, act, lengthRefusal, portRefusal, refuseOr, step}
@@ -29,7 +29,7 @@ use Rattle.dshot_bank_spec.proofs.Service.{leasedCore, leased-frame, se
 -- counting keeps the reply
 pub count-keeps : (r : Reply.Answer Reading) (l : LaneReply) → countReply r l .reply ≡ r
 unfolding countReply
-count-keeps r l = either (λ (x : LaneReply). x .reply ≡ r) (isOk r) refl refl
+count-keeps r l = either (λ (x : LaneReply). x .reply ≡ r) (isGiven r) refl refl
 
 lane-stored : (n lane : ℕ) → lane < n → (reading : Bool) (present : List Bool) (masks samples : List ℕ) (old : List LaneReply)
     → getD (readReplies n reading present masks samples old) lane noReplies

@@ -3,10 +3,10 @@
 -- Kaldstrand, Apache-2.0), changed: rewritten as definitions, over n lanes, with the windows in one buffer.
 -- Assumes nothing.
 use Prim.Native.Nat.{ℕ, _+_, _-_, _*_, _%_, _^_, min}
-use mathlib.Core.Bool.{Bool, true, false}
+use mathlib.Core.Bool.{Bool, false}
 use mathlib.Core.List.{List}
 use lib.ListN.{getD, take, drop}
-use Rattle.dshot_reply_spec.specs.Answer.{Answer, given, refused, noReply}
+use Rattle.dshot_reply_spec.specs.Answer.{Answer, refused, isGiven, noReply}
 use Rattle.dshot_reply_spec.specs.Value.{Reading}
 use Rattle.dshot_reply_spec.specs.Reading.{sampledReply}
 use Rattle.dshot_spec.specs.Tabulate.{tabulate}
@@ -30,14 +30,10 @@ window samples lane = take 160 (drop (160 * lane) samples)
 abbrev pub readWindow : Bool → List ℕ → ℕ → Answer Reading
 readWindow present samples mask = if present then sampledReply 3 samples mask false else refused noReply
 
-abbrev pub isOk : Answer Reading → Bool
-isOk (given r) = true
-isOk (refused e) = false
-
 -- a lane's record after one more reply
 unfoldable pub countReply : Answer Reading → LaneReply → LaneReply
 countReply reply l =
-    if isOk reply
+    if isGiven reply
     then record { reply = reply; valid = wrappingAdd (l .valid); invalid = l .invalid; consecutiveInvalid = 0 }
     else record { reply = reply; valid = l .valid; invalid = wrappingAdd (l .invalid); consecutiveInvalid = saturatingAdd (l .consecutiveInvalid) }
 

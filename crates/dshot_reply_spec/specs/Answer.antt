@@ -19,6 +19,11 @@ abbrev pub pick : {A : Type 0} → Bool → A → A → A
 pick true a b = a
 pick false a b = b
 
+-- whether something was given, as Rust's `is_ok`
+abbrev pub isGiven : {A : Type 0} → Answer A → Bool
+isGiven (given a) = true
+isGiven (refused n) = false
+
 -- the number of a refusal, and 0 for what was given
 abbrev pub refusalNumber : {A : Type 0} → Answer A → ℕ
 refusalNumber (given a) = 0

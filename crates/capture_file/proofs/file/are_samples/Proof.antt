@@ -6,7 +6,8 @@ use Prim.Native.Nat.{ℕ}
 use native.Mathlib.Omega.{arith}
 use lib.ListN.{drop}
 use Rattle.capture_file.specs.File.{readAll}
-use Rattle.capture_file.specs.FileSteps.{numberAnswer, isGiven}
+use Rattle.dshot_reply_spec.specs.Answer.{isGiven}
+use Rattle.capture_file.specs.FileSteps.{numberAnswer}
 use Rattle.capture_file.proofs.SampleLaws.{none-known, more-known, nothing-left}
 use borrow.Author.Needs.{needs}
 use Rattle.capture_file.proofs.file.are_samples.Statement.{statement}
