@@ -15,10 +15,10 @@ use borrow.Author.Tests.{ltb-true, eqb-true, eqb-false, lt-ltb, le-ltb, ne-eqb}
 use Rattle.dshot_reply_spec.specs.Answer.{Answer, given, refused, pick, noReply}
 use Rattle.dshot_reply_spec.specs.Value.{Reading, erpm, temp, volt, amp, debug, state, edt}
 use Rattle.dshot_spec.specs.Command.{CommandRun}
-use Rattle.dshot_bank_spec.specs.State.{MotorRun}
+use Rattle.dshot_bank_spec.specs.State.{MotorRun, leaseOf}
 use Rattle.dshot_bank_spec.proofs.LaneLaws.{on, off}
 use Rattle.bank_slots_spec.specs.Memory.{word, long}
-use Rattle.bank_slots_spec.specs.Layout.{flag, choice, lease, reply, four, bit, choiceSlot, leaseNumber, replyKind, replyNumber, runMotor, ofRun}
+use Rattle.bank_slots_spec.specs.Layout.{flag, choice, reply, four, bit, choiceSlot, leaseNumber, replyKind, replyNumber, runMotor, ofRun}
 use Rattle.bank_slots_spec.specs.Written.{isFlag, isChoice, isRun, isReply, ChoiceFits, LeaseFits, RunFits, SequenceFits, ReplyFits}
 use Rattle.bank_slots_spec.proofs.MemoryLaws.{both}
 
@@ -97,21 +97,21 @@ lease-number : (l : Option ℕ) → LeaseFits l → leaseNumber l < 2 ^ 64
 lease-number none h = omega arith
 lease-number (some n) h = h
 
-lease-same : (l : Option ℕ) → lease (leaseNumber l) ≡ l
+lease-same : (l : Option ℕ) → leaseOf (leaseNumber l) ≡ l
 lease-same none = refl
 lease-same (some n) = sym (off none (some (n + 1 - 1)) (ne-eqb (n + 1) 0 (λ e. omega arith)) (ap some (omega arith)))
 
-pub lease-back : (l : Option ℕ) → LeaseFits l → lease (longOf (leaseNumber l)) ≡ l
-lease-back l h = ap lease (long-back (leaseNumber l) (lease-number l h)) ∙ lease-same l
+pub lease-back : (l : Option ℕ) → LeaseFits l → leaseOf (longOf (leaseNumber l)) ≡ l
+lease-back l h = ap leaseOf (long-back (leaseNumber l) (lease-number l h)) ∙ lease-same l
 
-lease-some : (n : ℕ) → lease (suc n) ≡ some (suc n - 1)
+lease-some : (n : ℕ) → leaseOf (suc n) ≡ some (suc n - 1)
 lease-some n = sym (off none (some (suc n - 1)) (ne-eqb (suc n) 0 (λ e. omega arith)) refl)
 
-pub lease-kept : (n : ℕ) → n ≡ leaseNumber (lease n)
+pub lease-kept : (n : ℕ) → n ≡ leaseNumber (leaseOf n)
 lease-kept zero = refl
 lease-kept (suc n) = subst (λ (o : Option ℕ). suc n ≡ leaseNumber o) (sym (lease-some n)) (omega arith)
 
-pub lease-fits : (n : ℕ) → n < 2 ^ 64 → LeaseFits (lease n)
+pub lease-fits : (n : ℕ) → n < 2 ^ 64 → LeaseFits (leaseOf n)
 lease-fits zero h = tt
 lease-fits (suc n) h = subst LeaseFits (sym (lease-some n)) (omega arith)
 

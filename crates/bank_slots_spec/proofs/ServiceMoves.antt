@@ -12,7 +12,7 @@ use borrow.Author.Tests.{eq-eqb, ne-eqb}
 use Rattle.dshot_spec.specs.Tabulate.{tabulate}
 use Rattle.dshot_spec.specs.Lease.{elapsed, leaseExpired}
 use Rattle.dshot_bank_spec.specs.Lanes.{if_then_else_}
-use Rattle.dshot_bank_spec.specs.State.{Stats, Core, Bank, Buffers}
+use Rattle.dshot_bank_spec.specs.State.{Stats, Core, Bank, Buffers, leaseOf}
 use Rattle.dshot_bank_spec.specs.With.{withBusySkips, withLeaseExpiries, withFrameTimeouts, withCore}
 use Rattle.dshot_bank_spec.specs.Order.{latchOrders}
 use Rattle.dshot_bank_spec.specs.Commands.{commandStop, clearRequestSent}
@@ -23,7 +23,7 @@ use Rattle.dshot_bank_spec.specs.Calls.{Call, service-call, refused, State, Ste
 use Rattle.dshot_bank_spec.proofs.LaneLaws.{on, off}
 use Rattle.bank_slots_spec.specs.Memory.{at}
 use Rattle.bank_slots_spec.specs.Memory as Memory
-use Rattle.bank_slots_spec.specs.Layout.{slots, load, flag, lease, LEASE-STARTED, LEASE-OVER, BUSY, FAULTED, STARTED, BUSY-SKIPS, LEASE-EXPIRIES, FRAME-TIMEOUTS}
+use Rattle.bank_slots_spec.specs.Layout.{slots, load, flag, LEASE-STARTED, LEASE-OVER, BUSY, FAULTED, STARTED, BUSY-SKIPS, LEASE-EXPIRIES, FRAME-TIMEOUTS}
 use Rattle.bank_slots_spec.specs.Moves.{Moves, onCore}
 use Rattle.bank_slots_spec.specs.Parts.{bumped, windowsRead}
 use Rattle.bank_slots_spec.specs.Called.{Called, fit, long, number, stateAt, answerOf, buffersAfter}
@@ -35,12 +35,12 @@ use Rattle.bank_slots_spec.proofs.CalledLaws.{state-short, state-fits, 
 -- ---- the lease
 
 -- the duration is one less than the number of a lease
-held : (over : ℕ) → (over ≡ 0 → ⊥) → lease over ≡ some (over - 1)
+held : (over : ℕ) → (over ≡ 0 → ⊥) → leaseOf over ≡ some (over - 1)
 held over h = sym (off none (some (over - 1)) (ne-eqb over 0 h) refl)
 
 module _ (now : ℕ) (xs : List ℕ) where
   abbrev isExpired : ℕ → Bool
-  isExpired over = isSomeAndExpired (Memory.long LEASE-STARTED (at xs)) now (lease over)
+  isExpired over = isSomeAndExpired (Memory.long LEASE-STARTED (at xs)) now (leaseOf over)
 
   pub no-lease : Memory.long LEASE-OVER (at xs) ≡ 0 → false ≡ demandExpired now (load xs .core .demand)
   unfolding load demandExpired

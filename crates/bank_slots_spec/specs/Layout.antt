@@ -12,7 +12,7 @@ use Rattle.dshot_reply_spec.specs.Answer.{Answer, given, refused, pick, noReply
 use Rattle.dshot_reply_spec.specs.Value.{Reading, erpm, temp, volt, amp, debug, state, edt}
 use Rattle.dshot_spec.specs.Timing.{Timing}
 use Rattle.dshot_spec.specs.Command.{CommandRun}
-use Rattle.dshot_bank_spec.specs.State.{Demand, Telemetry, MotorRun, Frame, Stats, Core, LaneReply, Bank}
+use Rattle.dshot_bank_spec.specs.State.{Demand, Telemetry, MotorRun, Frame, Stats, Core, LaneReply, Bank, leaseOf}
 use Rattle.dshot_bank_spec.specs.Commands.{noReplies}
 use Rattle.bank_slots_spec.specs.Memory.{Row, _holds_, at, write, word, long, wordRows, longRows}
 
@@ -108,10 +108,6 @@ flag n = not (eqb n 0)
 abbrev pub choice : ℕ → Option ℕ
 choice n = pick (eqb n 0) none (some ((n - 1) % 4))
 
--- a lease: 0 is none, else the duration is one less
-abbrev pub lease : ℕ → Option ℕ
-lease n = pick (eqb n 0) none (some (n - 1))
-
 -- a reply by its kind and number: 0 to 6 are readings, in the order of the Rust's `DshotReply`, 7 to 11 document 01's refusals, and any other is 7
 abbrev pub reply : ℕ → ℕ → Answer Reading
 reply k n =
@@ -137,7 +133,7 @@ module _ (m : ℕ → ℕ) where
   timingAt = record { arr = m TIMING; zeroHigh = m (TIMING + 1); oneHigh = m (TIMING + 2); replySampleArr = m (TIMING + 3) }
 
   abbrev pub demandAt : Demand
-  demandAt = record { requestedValues = four (λ (i : ℕ). m (VALUES + i)); leaseStartedMs = long LEASE-STARTED m; leaseDurationMs = lease (long LEASE-OVER m) }
+  demandAt = record { requestedValues = four (λ (i : ℕ). m (VALUES + i)); leaseStartedMs = long LEASE-STARTED m; leaseDurationMs = leaseOf (long LEASE-OVER m) }
 
   abbrev pub telemetryAt : Telemetry
   telemetryAt = record { request = choice (m REQUEST); requestSent = choice (m SENT) }

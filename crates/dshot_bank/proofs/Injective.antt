@@ -16,6 +16,7 @@ use Rattle.dshot_reply_spec.specs.Answer as Reply
 use Rattle.dshot_reply_spec.specs.Value.{Reading, erpm, temp, volt, amp, debug, state, edt}
 use Rattle.dshot.proofs.Injective.{timingOf-injective}
 use Rattle.dshot_bank_spec.specs.State as Spec
+use Rattle.dshot_bank_spec.specs.State.{leaseOf}
 use Rattle.dshot_bank_spec.specs.Service.{ServiceEvent, frame-started, busy, lease-expired, faulted}
 use Rattle.dshot_bank_spec.specs.Interrupt.{InterruptEvent, completed, spurious}
 use Rattle.dshot_bank_spec.specs.Interrupt as Spec·
@@ -64,7 +65,7 @@ use Rattle.dshot_bank.specs.Orders.{ordersIn, Just}
 use Rattle.dshot_bank.specs.Serves.{serviceEventOf, serviceAnswer}
 use Rattle.dshot_bank.specs.Interrupts.{interruptEventOf, interruptAnswer}
 use Rattle.dshot_bank.proofs.LeaseLaws.{lease-held}
-use Rattle.dshot_bank.specs.States.{motorOf, choiceOf, leaseOf, commandSequenceOf, statsOf, coreOf, storedAnswer, laneReplyOf, bankOf}
+use Rattle.dshot_bank.specs.States.{motorOf, choiceOf, commandSequenceOf, statsOf, coreOf, storedAnswer, laneReplyOf, bankOf}
 
 -- two constructors are not equal
 differ : {A : Type 0} → _≡_ {A = ℕ} 0 1 → A

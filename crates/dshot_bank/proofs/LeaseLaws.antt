@@ -5,8 +5,8 @@ use mathlib.Core.Option.{some}
 use Prim.Native.Nat.{ℕ, _+_, _-_}
 use native.Mathlib.Omega.{arith}
 use borrow.Author.Tests.{ne-eqb}
+use Rattle.dshot_bank_spec.specs.State.{leaseOf}
 use Rattle.dshot_bank_spec.proofs.LaneLaws.{off}
-use Rattle.dshot_bank.specs.States.{leaseOf}
 
 -- a lease of n milliseconds
 pub lease-held : (n over : ℕ) → over ≡ n + 1 → leaseOf over ≡ some n

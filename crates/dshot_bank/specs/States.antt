@@ -1,13 +1,13 @@
 -- The state of the code in the terms of the definitions.
 -- Assumes nothing.
-use Prim.Native.Nat.{ℕ, _-_}
+use Prim.Native.Nat.{ℕ}
 use mathlib.Core.List.{List, [], _∷_, map}
 use mathlib.Core.Option.{Option, none, some}
 use Rattle.dshot_reply_spec.specs.Answer as Reply
 use Rattle.dshot_reply_spec.specs.Answer.{given, refused, noReply, overlong, invalidSymbol, wrongChecksum, zeroPeriod}
 use Rattle.dshot_reply_spec.specs.Value.{Reading, erpm, temp, volt, amp, debug, state, edt}
 use Rattle.dshot.specs.Answers.{timingOf}
-use Rattle.dshot_bank_spec.specs.State.{Buffers}
+use Rattle.dshot_bank_spec.specs.State.{Buffers, leaseOf}
 use Rattle.dshot_bank_spec.specs.State as Spec
 use Rattle.dshot_bank_spec.specs.Lanes.{if_then_else_}
 use Rattle.dshot_bank_spec.specs.Calls.{State, Answer, Stepped}
@@ -26,7 +26,7 @@ use Rattle.dshot_bank.specs.declared.StoredReply.{StoredReply}
 use Rattle.dshot_bank.specs.declared.StoredReply.the-variants.{Erpm, Temperature, Voltage, Current, Debug, StateEvent, ExtendedTelemetryEnabled, NoReply, Overlong, InvalidSymbol, Checksum, ZeroPeriod}
 use Rattle.dshot_bank.specs.declared.LaneReply.{LaneReply}
 use Rattle.dshot_bank.specs.declared.DshotBank.{DshotBank}
-use lib.Dec.{eqb, ltb}
+use lib.Dec.{ltb}
 
 -- the lane of a motor
 abbrev pub motorOf : DshotMotor → ℕ
@@ -43,10 +43,6 @@ choiceOf (MotorChoice·.Some m) = some (motorOf m)
 -- the motor of a lane, of which there are four
 abbrev pub motorAt : ℕ → Option ℕ
 motorAt lane = if ltb lane 4 then some lane else none
-
--- the Rust's `Option<u32>`: the milliseconds after which a lease is over are one more than its duration, and 0 without one
-abbrev pub leaseOf : ℕ → Option ℕ
-leaseOf over = if eqb over 0 then none else some (over - 1)
 
 abbrev pub demandOf : Demand → Spec.Demand
 demandOf d = record { requestedValues = d .«requested_values»; leaseStartedMs = d .«lease_started_ms»; leaseDurationMs = leaseOf (d .«lease_over_after_ms») }

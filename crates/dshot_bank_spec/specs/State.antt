@@ -2,11 +2,12 @@
 -- Stands for `DshotBank`, `DshotStats` and `DshotReplyStats` of crates/ferrowasp-stm32-critical/src/dshot_bank.rs (Eirik2020/ferro-wasp,
 -- commit 9cb8aca1a6, Copyright (c) 2026 Kaldstrand, Apache-2.0), changed: rewritten as definitions, in groups, with lists for the lanes.
 -- Assumes nothing.
-use Prim.Native.Nat.{ℕ}
+use Prim.Native.Nat.{ℕ, _-_}
 use mathlib.Core.Bool.{Bool}
 use mathlib.Core.List.{List}
-use mathlib.Core.Option.{Option}
-use Rattle.dshot_reply_spec.specs.Answer.{Answer}
+use mathlib.Core.Option.{Option, none, some}
+use lib.Dec.{eqb}
+use Rattle.dshot_reply_spec.specs.Answer.{Answer, pick}
 use Rattle.dshot_reply_spec.specs.Value.{Reading}
 use Rattle.dshot_spec.specs.Timing.{Timing}
 use Rattle.dshot_spec.specs.Command.{CommandRun}
@@ -16,6 +17,10 @@ pub record Demand : Type 0 where
   pub requestedValues : List ℕ
   pub leaseStartedMs : ℕ
   pub leaseDurationMs : Option ℕ
+
+-- a lease kept as a number, where the Rust has an `Option<u32>`: 0 is none, else the duration is one less
+abbrev pub leaseOf : ℕ → Option ℕ
+leaseOf over = pick (eqb over 0) none (some (over - 1))
 
 -- telemetry_request, telemetry_request_sent
 pub record Telemetry : Type 0 where

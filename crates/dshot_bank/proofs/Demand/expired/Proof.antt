@@ -7,7 +7,7 @@ use lib.Dec.{leb}
 use Rattle.dshot.proofs.WrapLaws.{wrapped}
 use Rattle.dshot_spec.specs.Lease.{leaseExpired}
 use Rattle.dshot_bank_spec.specs.Service.{isSomeAndExpired, demandExpired}
-use Rattle.dshot_bank.specs.States.{leaseOf}
+use Rattle.dshot_bank_spec.specs.State.{leaseOf}
 use Rattle.dshot_bank.proofs.LeaseLaws.{lease-held}
 use borrow.Author.Needs.{needs}
 use Rattle.dshot_bank.proofs.Demand.expired.Statement.{statement}

@@ -5,7 +5,7 @@ use Prim.Native.Nat.{ℕ, _-_}
 use native.Mathlib.Omega.{arith}
 use Rattle.dshot_bank_spec.specs.Lanes.{isSome}
 use Rattle.dshot_bank_spec.proofs.LaneLaws.{on, off}
-use Rattle.dshot_bank.specs.States.{leaseOf}
+use Rattle.dshot_bank_spec.specs.State.{leaseOf}
 use Rattle.dshot_bank.proofs.LeaseLaws.{lease-held}
 use borrow.Author.Needs.{needs}
 use Rattle.dshot_bank.proofs.Demand.is_running.Statement.{statement}
