@@ -1,32 +1,19 @@
--- Answers that are made in steps: what is given was given by each step, and a refusal of bytes has one number.
+-- Answers that are made in steps: a refusal of bytes has one number.
 -- Assumes nothing.
-use mathlib.Core.Path.{_≡_, refl, sym}
+use mathlib.Core.Path.{_≡_, refl}
 use mathlib.Core.Bool.{Bool, true, false}
 use Prim.Native.Nat.{ℕ}
 use native.Mathlib.Omega.{arith}
 use Rattle.dshot_reply_spec.specs.Answer.{Answer, given, refused, then, pick, isGiven, notACapture}
-use Rattle.dshot_reply_spec.proofs.Choice.{not-first}
-
--- an answer is not refused and given at once
-pub no-answer : {A : Type 0} {n : ℕ} {x : A} → refused n ≡ given x → ⊥
-no-answer e = let z : _≡_ {A = ℕ} 0 1 = cc in omega arith
+use Rattle.dshot_reply_spec.proofs.Choice.{not-both}
 
 pub same-given : {A : Type 0} {x y : A} → given x ≡ given y → x ≡ y
 same-given e = cc
 
--- what is given by two steps was given by each
-pub then-given : {A B : Type 0} {y : B} (a : Answer A) (f : A → Answer B) → then a f ≡ given y → (x : A) × (a ≡ given x) × (f x ≡ given y)
-then-given (given x) f e = (x, refl, e)
-then-given (refused n) f e = absurd (no-answer e)
-
 -- what is refused before a step that refuses nothing was refused so
 pub then-refused : {A B : Type 0} {n : ℕ} (a : Answer A) (f : A → B) → then a (λ x. given (f x)) ≡ refused n → a ≡ refused n
-then-refused (given x) f e = absurd (no-answer (sym e))
+then-refused (given x) f e = absurd (not-both refl e)
 then-refused (refused m) f e = cc
-
--- what is given past a refusal has failed its test
-pub past : {A : Type 0} {a : Answer A} {x : A} (t : Bool) → pick t (refused notACapture) a ≡ given x → (t ≡ false) × (a ≡ given x)
-past t e = not-first t e no-answer
 
 -- an answer is given, or refused as bytes are that hold no file
 pub data Read {A : Type 0} : Answer A → Type 0 where
@@ -51,5 +38,5 @@ is-given (given x) e = (x, refl)
 is-given (refused n) e = let z : _≡_ {A = ℕ} 0 1 = cc in absurd (omega arith)
 
 pub same-refusal : {A : Type 0} (a : Answer A) (n : ℕ) → Read a → a ≡ refused n → n ≡ notACapture
-same-refusal a n (found x) e = absurd (no-answer (sym e))
+same-refusal a n (found x) e = absurd (not-both refl e)
 same-refusal a n lacking e = cc

@@ -1,6 +1,6 @@
 -- The answers of reading and writing a whole file, and what they leave in the buffers.
 -- Assumes nothing.
-use mathlib.Core.Path.{_≡_, sym, ap, _∙_}
+use mathlib.Core.Path.{_≡_, refl, sym, ap, _∙_}
 use mathlib.Core.Bool.{true, false}
 use mathlib.Core.List.{List, [], _∷_}
 use Prim.Native.Nat.{ℕ, zero, suc, _≤_, _<_}
@@ -8,9 +8,10 @@ use native.Mathlib.Omega.{arith}
 use lib.Dec.{eqb, ltb}
 use lib.ListN.{length}
 use borrow.Author.Tests.{eq-eqb, ne-eqb, lt-ltb, le-ltb, ltb-false}
-use Rattle.dshot_reply_spec.proofs.Choice.{not-first, not-second}
 use Rattle.dshot_reply_spec.specs.Answer.{Answer, given, refused, then, isGiven, notACapture, wrongLength, filled}
-use Rattle.capture_file.proofs.AnswerLaws.{no-answer, same-given, then-given, not-given, is-given}
+use Rattle.dshot_reply_spec.proofs.Choice.{not-both}
+use Rattle.dshot_reply_spec.proofs.Given.{first-given, second-given, then-given}
+use Rattle.capture_file.proofs.AnswerLaws.{same-given, not-given, is-given}
 use Rattle.capture_file.proofs.AnswerLaws.{Read, found, lacking, read-then, read-pick}
 use Rattle.capture_file.proofs.HeadLaws.{head-few}
 use Rattle.capture_file.proofs.ReadBack.{file-most}
@@ -46,7 +47,7 @@ file-start s = read-then _ (head-start s) (λ h. read-then _ (all-start (h .coun
 -- as many samples as were asked for
 all-length : (n : ℕ) (s xs : List ℕ) → readAll n s ≡ given xs → length xs ≡ n
 all-length zero [] xs e = ap length (sym (same-given e))
-all-length zero (b ∷ s) xs e = absurd (no-answer e)
+all-length zero (b ∷ s) xs e = absurd (not-both e refl)
 all-length (suc n) s xs e =
     let t = then-given (readNumber s) _ e in
     let q = then-given (readAll n (t .0 .rest)) _ (t .2) in
@@ -85,7 +86,7 @@ module _ (bytes slots : List ℕ) where
   -- what is read into slots is what the file holds
   pub into-given : (c : Capture) → readInto bytes slots ≡ given c → readFile bytes ≡ given c
   unfolding readInto
-  into-given c e = not-second (eqb (length slots) captureSamples) e no-answer .1
+  into-given c e = first-given _ (eqb (length slots) captureSamples) e .1
 
   module _ (h : length slots ≡ captureSamples) where
     pub into-is : readInto bytes slots ≡ readFile bytes
@@ -148,7 +149,7 @@ pub written-fits : (c : Capture) (out : List ℕ) (n : ℕ) → given n ≡ then
 unfolding writtenInto
 written-fits c out n e =
     let w = then-given (writtenInto c out) byteCount (sym e) in
-    let p = not-first (ltb captureSamples (length (c .samples))) (w .1) no-answer in
-    let q = not-second (eqb (length out) captureFileBytes) (p .1) no-answer in
+    let p = second-given _ (ltb captureSamples (length (c .samples))) (w .1) in
+    let q = first-given _ (eqb (length out) captureFileBytes) (p .1) in
     let few = ltb-false captureSamples (length (c .samples)) (p .0) in
     omega (arith, file-most c few, ap length (same-given (q .1)), same-given (w .2))

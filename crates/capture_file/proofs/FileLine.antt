@@ -11,7 +11,6 @@ use lib.Dec.{eqb, ltb, lit<, lit≤}
 use lib.ListN.{length, take, replicate, length-append, length-replicate}
 use lib.Seq.{length-take-le, take-all}
 use Rattle.dshot_reply_spec.proofs.Cases.{lt-or-ge}
-use Rattle.dshot_reply_spec.proofs.Choice.{not-first}
 use Rattle.dshot_reply_spec.proofs.Simulated.{simulated-written, simulated-length}
 use Rattle.dshot_reply_spec.specs.Answer.{Answer, given, refused, then}
 use Rattle.dshot_reply_spec.specs.Gcr.{replyWord}
@@ -20,7 +19,8 @@ use Rattle.capture_file.specs.File.{captureSamples, captureFileBytes, Ca
 use Rattle.capture_file.specs.Line.{listedValue, ascii, digit, decimalWithin, lineOf, padded}
 use Rattle.capture_file.specs.declared.line.Line.{Line}
 use Rattle.capture_file.specs.Listing.{listedCapture, fileLine}
-use Rattle.capture_file.proofs.AnswerLaws.{no-answer, same-given}
+use Rattle.dshot_reply_spec.proofs.Given.{second-given}
+use Rattle.capture_file.proofs.AnswerLaws.{same-given}
 use Rattle.capture_file.proofs.LineLaws.{line-fits}
 use Rattle.capture_file.proofs.Listing.{simulated-listed, document-line}
 use Rattle.capture_file.proofs.Theorems.{written-reads, read-written, longest, only-refusal}
@@ -89,8 +89,8 @@ module _ (out : List ℕ) (v lead mask : ℕ) (extended : Bool) (l : List ℕ) (
   samples-fit : UpTo 65535 l
   unfolding simulated
   samples-fit =
-      let p = not-first (ltb (length out) (lead + 69)) e no-answer in
-      let q = not-first (eqb mask 0) (p .1) no-answer in
+      let p = second-given _ (ltb (length out) (lead + 69)) e in
+      let q = second-given _ (eqb mask 0) (p .1) in
       subst (UpTo 65535) (same-given (q .1)) (word-fits (replyWord v) lead mask (length out) m)
 
   -- a file holds what is written into a buffer that has not too many slots

@@ -6,7 +6,8 @@ use Prim.Native.Nat.{ℕ, _≤_, _<_}
 use lib.Dec.{eqb, ltb}
 use borrow.Author.Tests.{lt-ltb, le-ltb, ltb-false}
 use Rattle.dshot_reply_spec.specs.Answer.{given, refused, notACapture}
-use Rattle.capture_file.proofs.AnswerLaws.{same-given, then-given, past}
+use Rattle.dshot_reply_spec.proofs.Given.{second-given, then-given}
+use Rattle.capture_file.proofs.AnswerLaws.{same-given}
 use Rattle.capture_file.specs.File.{captureSamples, Headed, readNumber, Head, readHead}
 
 pub no-count : (bytes : List ℕ) → readNumber bytes ≡ refused notACapture → readHead bytes ≡ refused notACapture
@@ -56,8 +57,8 @@ parts bytes h e =
     let c = then-given (readNumber bytes) _ e in
     let m = then-given (readNumber (c .0 .rest)) _ (c .2) in
     let f = then-given (readNumber (m .0 .rest)) _ (m .2) in
-    let p = past (ltb captureSamples (c .0 .number)) (f .2) in
-    let q = past (ltb 1 (f .0 .number)) (p .1) in
+    let p = second-given notACapture (ltb captureSamples (c .0 .number)) (f .2) in
+    let q = second-given notACapture (ltb 1 (f .0 .number)) (p .1) in
     record {
       count = c .0;
       mask = m .0;

@@ -7,7 +7,8 @@ use native.Mathlib.Omega.{arith}
 use lib.ListN.{length, take, drop}
 use lib.Seq.{take-append-seam}
 use Rattle.dshot_reply_spec.specs.Answer.{Answer, given, refused, then, filled}
-use Rattle.capture_file.proofs.AnswerLaws.{same-given, then-given, then-refused}
+use Rattle.dshot_reply_spec.proofs.Given.{then-given}
+use Rattle.capture_file.proofs.AnswerLaws.{same-given, then-refused}
 use Rattle.capture_file.proofs.CallLaws.{into-is, into-given, file-few}
 use Rattle.capture_file.specs.File.{captureSamples, Capture, front, slotsOf, readInto, Told, told}
 use Rattle.capture_file.specs.declared.line.Line.{Line}

@@ -1,6 +1,6 @@
 -- A number's groups read back as that number, and a number is read from its own groups alone.
 -- Assumes nothing.
-use mathlib.Core.Path.{_≡_, sym, ap, _∙_}
+use mathlib.Core.Path.{_≡_, refl, sym, ap, _∙_}
 use mathlib.Core.Logic.{⊎-elim}
 use mathlib.Core.List.{List, [], _∷_, _++_}
 use Prim.Native.Nat.{ℕ, _+_, _-_, _*_, _/_, _%_, _≤_, _<_}
@@ -10,7 +10,9 @@ use lib.ListN.{length}
 use borrow.Author.Tests.{eqb-false, ltb-false, ne-eqb, lt-ltb, le-ltb}
 use Rattle.dshot_reply_spec.specs.Answer.{Answer, given, refused, then, pick, notACapture}
 use Rattle.dshot_reply_spec.proofs.Cases.{lt-or-ge}
-use Rattle.capture_file.proofs.AnswerLaws.{no-answer, same-given, then-given, past}
+use Rattle.dshot_reply_spec.proofs.Choice.{not-both}
+use Rattle.dshot_reply_spec.proofs.Given.{second-given, then-given}
+use Rattle.capture_file.proofs.AnswerLaws.{same-given}
 use Rattle.capture_file.specs.File.{groups, Headed, headed, readGroups, readNumber, UpTo}
 
 -- ---- the groups of a number
@@ -102,7 +104,7 @@ pub longer-from : (b : ℕ) (a : Answer Headed) (r : Headed) → longer b a ≡ 
     → (q : Headed) × (a ≡ given q) × (q .number ≡ 0 → ⊥) × (headed (b - 128 + 128 * q .number) (q .rest) ≡ r)
 longer-from b a r e =
     let t = then-given a _ e in
-    let p = past (eqb (t .0 .number) 0) (t .2) in
+    let p = second-given notACapture (eqb (t .0 .number) 0) (t .2) in
     (t .0, t .1, eqb-false (t .0 .number) 0 (p .0), same-given (p .1))
 
 pub pos : (n : ℕ) → (n ≡ 0 → ⊥) → 0 < n
@@ -135,7 +137,7 @@ first-group b s r u e h again = ⊎-elim one more (lt-or-ge b 128)
 
 written-groups : (bytes : List ℕ) (r : Headed) → UpTo 255 bytes → readGroups bytes ≡ given r → r .number ≤ 65535
     → bytes ≡ groups (r .number) ++ r .rest
-written-groups [] r u e h = absurd (no-answer e)
+written-groups [] r u e h = absurd (not-both e refl)
 written-groups (b ∷ s) r u e h = first-group b s r (u .0) e h (λ q f l. written-groups s q (u .1) f l)
 
 pub number-written : (bytes : List ℕ) (r : Headed) → UpTo 255 bytes → readNumber bytes ≡ given r
@@ -143,7 +145,7 @@ pub number-written : (bytes : List ℕ) (r : Headed) → UpTo 255 bytes → read
 unfolding readNumber
 number-written bytes r u e =
     let t = then-given (readGroups bytes) _ e in
-    let p = past (ltb 65535 (t .0 .number)) (t .2) in
+    let p = second-given notACapture (ltb 65535 (t .0 .number)) (t .2) in
     let q : readGroups bytes ≡ given r = t .1 ∙ p .1 in
     let same : t .0 .number ≡ r .number = ap (λ (x : Headed). x .number) (same-given (p .1)) in
     let small : r .number ≤ 65535 = rw same at (ltb-false 65535 (t .0 .number) (p .0)) in

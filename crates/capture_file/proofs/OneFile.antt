@@ -9,7 +9,9 @@ use lib.Dec.{eqb}
 use lib.ListN.{length}
 use borrow.Author.Tests.{eqb-true, eqb-false}
 use Rattle.dshot_reply_spec.specs.Answer.{given, pick}
-use Rattle.capture_file.proofs.AnswerLaws.{no-answer, same-given, then-given}
+use Rattle.dshot_reply_spec.proofs.Choice.{not-both}
+use Rattle.dshot_reply_spec.proofs.Given.{then-given}
+use Rattle.capture_file.proofs.AnswerLaws.{same-given}
 use Rattle.capture_file.proofs.NumberLaws.{number-written}
 use Rattle.capture_file.proofs.HeadLaws.{parts}
 use Rattle.capture_file.specs.File.{captureSamples, groups, Headed, readNumber, readAll, Capture, UpTo, Valid, allGroups, fileOf}
@@ -33,7 +35,7 @@ AllWritten n bytes xs = (bytes ≡ allGroups xs) × (length xs ≡ n) × UpTo 65
 
 all-written : (n : ℕ) (bytes : List ℕ) (xs : List ℕ) → UpTo 255 bytes → readAll n bytes ≡ given xs → AllWritten n bytes xs
 all-written zero [] xs u e = subst (AllWritten zero []) (same-given e) (refl, refl, tt)
-all-written zero (b ∷ s) xs u e = absurd (no-answer e)
+all-written zero (b ∷ s) xs u e = absurd (not-both e refl)
 all-written (suc n) bytes xs u e =
     let t = then-given (readNumber bytes) _ e in
     let r = t .0 in

@@ -13,7 +13,9 @@ use lib.Seq.{drop-cons}
 use borrow.Author.Tests.{le-leb, lt-leb}
 use Rattle.dshot_reply_spec.specs.Answer.{Answer, given, refused, then, isGiven, notACapture, filled}
 use Rattle.dshot_reply_spec.proofs.Cases.{lt-or-ge}
-use Rattle.capture_file.proofs.AnswerLaws.{no-answer, same-given, then-given, is-given}
+use Rattle.dshot_reply_spec.proofs.Choice.{not-both}
+use Rattle.dshot_reply_spec.proofs.Given.{then-given}
+use Rattle.capture_file.proofs.AnswerLaws.{same-given, is-given}
 use Rattle.capture_file.proofs.WriteLaws.{put-one, put-put, put-none, put-first}
 use Rattle.capture_file.specs.File.{Headed, headed, readNumber, readAll, front}
 use Rattle.capture_file.specs.FileSteps.{put}
@@ -98,7 +100,7 @@ module _ {bytes slots : List ℕ} {from count : ℕ} {now : List ℕ} {at i : �
 
   -- each sample was found to be there
   pub filling-never : i < count → readNumber (drop at bytes) ≡ refused notACapture → ⊥
-  filling-never h e = no-answer (sym (all-none (count - i) (drop at bytes) (omega arith) e) ∙ f .reads)
+  filling-never h e = not-both (f .reads) (all-none (count - i) (drop at bytes) (omega arith) e)
 
   pub filling-end : count ≤ i → now ≡ filled (front slots) slots (readAll count (drop from bytes))
   filling-end h =
@@ -108,4 +110,4 @@ module _ {bytes slots : List ℕ} {from count : ℕ} {now : List ℕ} {at i : �
     where
       no-more : (s xs : List ℕ) → readAll zero s ≡ given xs → xs ≡ []
       no-more [] xs e = sym (same-given e)
-      no-more (b ∷ s) xs e = absurd (no-answer e)
+      no-more (b ∷ s) xs e = absurd (not-both e refl)

@@ -12,11 +12,11 @@ use lib.Dec.{eqb, ltb}
 use lib.ListN.{length, getD}
 use Rattle.dshot_reply_spec.proofs.Choice.{not-first, not-second}
 use Rattle.dshot_reply_spec.specs.Answer.{pick, given}
-use Rattle.dshot_spec.proofs.SequenceReads.{sequence-reads}
-use Rattle.dshot_spec.proofs.Tabulated.{length-tabulate, getD-tabulate}
+use Rattle.dshot_spec.proofs.SequenceReads.{sequence-reads, sequence-slots}
+use Rattle.dshot_spec.proofs.Tabulated.{getD-tabulate}
 use Rattle.dshot_spec.specs.Lease.{leaseExpired}
 use Rattle.dshot_spec.specs.Packet.{Kind, packetWord, motorPackets, asks}
-use Rattle.dshot_spec.specs.Sequence.{Sequence, sequenceOf, sequenceSlot, readSequence}
+use Rattle.dshot_spec.specs.Sequence.{Sequence, sequenceOf, readSequence}
 use Rattle.dshot_spec.specs.Tabulate.{tabulate}
 use Rattle.dshot_spec.specs.Timing.{Timing}
 use Rattle.dshot_bank_spec.specs.Lanes.{position}
@@ -49,10 +49,6 @@ packet-lane : (n lane : ℕ) (c : Core) → lane < n
     → getD (packetsSent n c) lane 0 ≡ packetWord (kindSent c) (getD (nextSet n c .values) lane 0) (asks (nextSet n c .telemetryLane) lane)
 unfolding motorPackets
 packet-lane n lane c h = getD-tabulate _ n lane 0 h
-
-sequence-length : (t : Timing) (w : ℕ) → length (sequenceOf t w .slots) ≡ 16
-unfolding sequenceOf
-sequence-length t w = length-tabulate (sequenceSlot t w) 16
 
 -- the lane's duty and slots read back
 lane-reads : (n lane : ℕ) (c : Core) → (c .timing .zeroHigh ≡ c .timing .oneHigh → ⊥) → lane < n
@@ -108,7 +104,7 @@ module _ (n now : ℕ) (c : Core) (b : Buffers) (replies : List LaneReply) where
   lane-seen h lane l =
       let marks = c .frame .inSecond in
       let bs = sentState .buffers in
-      let w = written n (λ i. getD marks i false) (λ i. sequenceAt n c i .slots) (λ i. sequence-length _ _) b h n (omega arith) in
+      let w = written n (λ i. getD marks i false) (λ i. sequenceAt n c i .slots) (λ i. sequence-slots _ _) b h n (omega arith) in
       sym (seen-answer n lane sentState l (fits n bs (w .long)))
       ∙ ap slots (ap (λ (x : Bool). laneSlots lane (pick x (bs .second) (bs .first))) (turned n lane marks l)
       ∙ ap (laneSlots lane) (seen-spare (getD marks lane false) bs)

@@ -1,5 +1,4 @@
--- The laws of parts of one width that are joined, for every count: their length, and what a loop that puts them in their places keeps; and the
--- width of a sequence's slots.
+-- The laws of parts of one width that are joined, for every count: their length, and what a loop that puts them in their places keeps.
 -- Assumes nothing.
 use mathlib.Core.Path.{_≡_, _∙_, sym, ap}
 use mathlib.Core.List.{List, _++_, append-nil, append-assoc}
@@ -9,15 +8,7 @@ use native.Mathlib.Nat.{mul-le-mul-left}
 use native.Mathlib.Numerals.{add-one}
 use lib.ListN.{length, take, drop, length-append, length-drop, drop-of-length-le}
 use lib.Seq.{drop-drop, take-at, drop-at}
-use Rattle.dshot_spec.proofs.Tabulated.{length-tabulate}
-use Rattle.dshot_spec.specs.Sequence.{sequenceOf, sequenceSlot}
-use Rattle.dshot_spec.specs.Timing.{Timing}
 use Rattle.dshot_bench.specs.Sequences.{joined}
-
--- a sequence has sixteen slots
-pub sequence-slots : (t : Timing) (w : ℕ) → length (sequenceOf t w .slots) ≡ 16
-unfolding sequenceOf
-sequence-slots t w = length-tabulate (sequenceSlot t w) 16
 
 -- slots of which the first i parts of width w are those of f
 pub record Joined (w n : ℕ) (f : ℕ → List ℕ) (xs : List ℕ) (i : ℕ) (out : List ℕ) : Type 0 where

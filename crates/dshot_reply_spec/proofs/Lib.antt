@@ -1,6 +1,7 @@
 pub mod Table
 pub mod Cases
 pub mod Choice
+pub mod Given
 pub mod Answered
 pub mod Inverse
 pub mod XorLaws

@@ -1,5 +1,4 @@
 pub mod Tabulated
-pub mod Given
 pub mod TimingLaws
 pub mod PacketReads
 pub mod SequenceReads

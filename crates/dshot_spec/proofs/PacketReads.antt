@@ -12,7 +12,7 @@ use borrow.Author.Tests.{eq-eqb, eqb-true, ne-eqb}
 use Rattle.dshot_reply_spec.proofs.Table.{at}
 use Rattle.dshot_reply_spec.proofs.XorLaws.{nibble-xor}
 use Rattle.dshot_reply_spec.specs.Answer.{given, wrongPacketChecksum}
-use Rattle.dshot_spec.proofs.Given.{either-given, first-given}
+use Rattle.dshot_reply_spec.proofs.Given.{either-given, first-given}
 use Rattle.dshot_spec.specs.Packet.{Frame, Kind, plain, inverted, checksum, flag, frameOf, packetWord, payload, readPacket, sent}
 
 -- ---- the parts of a packet word

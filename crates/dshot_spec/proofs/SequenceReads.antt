@@ -16,11 +16,12 @@ use borrow.Author.Tests.{eq-eqb, eqb-true, ne-eqb}
 use Rattle.dshot_reply_spec.proofs.SimulatedRenders.{low-bits}
 use Rattle.dshot_reply_spec.specs.Answer.{Answer, given, pick, refused, then, wrongDuty, wrongLength}
 use Rattle.dshot_reply_spec.specs.Move.{bit}
-use Rattle.dshot_spec.proofs.Given.{either-given, first-given, second-given, then-given}
+use Rattle.dshot_reply_spec.proofs.Given.{either-given, first-given, second-given, then-given}
 use Rattle.dshot_spec.proofs.PacketReads.{packet-read, packet-reads, packet-small}
+use Rattle.dshot_spec.proofs.Tabulated.{length-tabulate}
 use Rattle.dshot_spec.proofs.TimingLaws.{unequal-times}
 use Rattle.dshot_spec.specs.Packet.{Frame, Kind, packetWord, readPacket}
-use Rattle.dshot_spec.specs.Sequence.{Sequence, dutyBit, isSet, readSequence, sequenceOf, wordFrom}
+use Rattle.dshot_spec.specs.Sequence.{Sequence, dutyBit, isSet, readSequence, sequenceOf, sequenceSlot, wordFrom}
 use Rattle.dshot_spec.specs.Tabulate.{tabulate}
 use Rattle.dshot_spec.specs.Timing.{Timing, dutyForBit, fromClocks}
 
@@ -33,6 +34,11 @@ duties t (suc n) w = dutyForBit t (isSet w n) ∷ duties t n w
 pub sequence-duties : (t : Timing) (w : ℕ) → sequenceOf t w .first ∷ sequenceOf t w .slots ≡ duties t 16 w ++ (0 ∷ [])
 unfolding sequenceOf tabulate duties
 sequence-duties t w = refl
+
+-- a sequence has sixteen slots
+pub sequence-slots : (t : Timing) (w : ℕ) → length (sequenceOf t w .slots) ≡ 16
+unfolding sequenceOf
+sequence-slots t w = length-tabulate (sequenceSlot t w) 16
 
 -- ---- from a word to its duties and back
 

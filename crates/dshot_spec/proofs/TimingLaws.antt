@@ -9,7 +9,7 @@ use mathlib.Core.Bool.{Bool, true, false}
 use borrow.Author.Tests.{eqb-false, ltb-false}
 use Rattle.dshot_reply_spec.specs.Answer.{given, periodTooLong, periodTooShort, zeroBitrate, zeroTimerClock}
 use Rattle.dshot_reply_spec.specs.Nearest.{nearest}
-use Rattle.dshot_spec.proofs.Given.{second-given}
+use Rattle.dshot_reply_spec.proofs.Given.{second-given}
 use Rattle.dshot_spec.specs.Timing.{ClocksGiven, Timing, dutyForBit, fromClocks, replySampleHz}
 use Rattle.dshot_spec.specs.Betaflight.{NearestTick, highEighths}
 

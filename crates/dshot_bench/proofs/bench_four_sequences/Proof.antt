@@ -15,7 +15,8 @@ use Rattle.dshot_spec.specs.Timing.{Timing}
 use Rattle.dshot.specs.Answers.{timingOf, words}
 use Rattle.dshot.specs.declared.DshotPacket.{DshotPacket}
 use Rattle.dshot_bench.specs.Sequences.{timingOfCounts, built, firstsOf, slotsOf}
-use Rattle.dshot_bench.proofs.JoinedLaws.{Joined, joined-none, joined-more, joined-all, sequence-slots}
+use Rattle.dshot_bench.proofs.JoinedLaws.{Joined, joined-none, joined-more, joined-all}
+use Rattle.dshot_spec.proofs.SequenceReads.{sequence-slots}
 use borrow.Author.Needs.{needs}
 use Rattle.dshot_bench.proofs.bench_four_sequences.Statement.{statement}
 use Rattle.dshot_bench.proofs.bench_four_sequences.Tie as tie

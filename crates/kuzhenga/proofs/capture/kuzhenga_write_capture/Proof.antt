@@ -3,7 +3,8 @@
 use mathlib.Core.Path.{sym, ap, _∙_}
 use mathlib.Core.List.{[], _∷_}
 use native.Mathlib.Omega.{arith}
-use Rattle.capture_file.proofs.AnswerLaws.{same-given, then-given, then-refused}
+use Rattle.dshot_reply_spec.proofs.Given.{then-given}
+use Rattle.capture_file.proofs.AnswerLaws.{same-given, then-refused}
 use Rattle.capture_file.proofs.CallLaws.{written-fits}
 use Rattle.capture_file.specs.File.{front, byteCount}
 use Rattle.capture_file.specs.FileAnswers.{writtenAnswer}
