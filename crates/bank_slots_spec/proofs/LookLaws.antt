@@ -8,13 +8,14 @@ use Prim.Native.Nat.{ℕ, zero, suc, _+_, _*_, _/_, _%_, _<_, _≤_, zero-le}
 use native.Mathlib.Nat.{le-antisymm, le-of-suc-le-suc}
 use native.Mathlib.Omega.{arith}
 use lib.Dec.{eqb, ltb}
-use lib.ListN.{length, getD, set, take, drop, replicate, length-set}
+use lib.ListN.{length, getD, set, take, replicate, length-set}
 use lib.Seq.{take-all}
 use borrow.Author.Tests.{ltb-true, ne-eqb}
 use Rattle.dshot_reply_spec.specs.Answer.{pick, given, refused, noReply}
 use Rattle.dshot_reply_spec.specs.Answer as Reply
 use Rattle.dshot_reply_spec.specs.Value.{Reading}
 use Rattle.dshot_reply_spec.specs.Kind.{kindNumber, readingNumber}
+use Rattle.dshot_spec.specs.Tabulate.{part}
 use Rattle.dshot_bank_spec.specs.Lanes.{if_then_else_, isSome}
 use Rattle.dshot_bank_spec.specs.State.{Core, Buffers}
 use Rattle.dshot_bank_spec.specs.With.{withRepliesHeld, withFrame}
@@ -295,7 +296,7 @@ four-at f (suc (suc (suc (suc i)))) d h = absurd (omega arith)
 
 -- a lane's part of the buffer that its mark names
 pub view-is : (xs : List ℕ) (b : Buffers) (motor : ℕ) {inSecond : Bool} → motor < 4 → flag (at xs (IN-SECOND + motor)) ≡ inSecond
-    → take 16 (drop (16 * motor) (pick inSecond (b .second) (b .first))) ≡ sequenceSent (load xs .core) b motor
+    → part 16 motor (pick inSecond (b .second) (b .first)) ≡ sequenceSent (load xs .core) b motor
 unfolding load
 view-is xs b motor h e =
-    ap (λ (t : Bool). take 16 (drop (16 * motor) (pick t (b .second) (b .first)))) (sym e ∙ four-at (λ (i : ℕ). flag (at xs (IN-SECOND + i))) motor false h)
+    ap (λ (t : Bool). part 16 motor (pick t (b .second) (b .first))) (sym e ∙ four-at (λ (i : ℕ). flag (at xs (IN-SECOND + i))) motor false h)

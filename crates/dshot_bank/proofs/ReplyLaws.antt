@@ -11,7 +11,7 @@ use lib.Dec.{eqb, ltb}
 use lib.ListN.{length, getD, take, drop, length-map, List·getD-map}
 use lib.Seq.{ext-getD}
 use Rattle.dshot_reply_spec.specs.Answer.{pick}
-use Rattle.dshot_spec.specs.Tabulate.{tabulate}
+use Rattle.dshot_spec.specs.Tabulate.{tabulate, part}
 use Rattle.dshot_spec.proofs.Tabulated.{length-tabulate, getD-tabulate}
 use Rattle.dshot_bank_spec.specs.Lanes.{if_then_else_}
 use Rattle.dshot_bank_spec.specs.Refusals.{noSuchMotor}
@@ -51,7 +51,7 @@ tabulate-maps {A} g f l d h = tabulate-map (λ (x : A). g (f x)) l d h ∙ sym (
 pub part-size : (w i : ℕ) → w * i + w - w * i ≡ w
 part-size w i = omega arith
 
-pub part-is : (w i : ℕ) (xs : List ℕ) → take (w * i + w - w * i) (drop (w * i) xs) ≡ take w (drop (w * i) xs)
+pub part-is : (w i : ℕ) (xs : List ℕ) → take (w * i + w - w * i) (drop (w * i) xs) ≡ part w i xs
 part-is w i xs = rw (part-size w i)
 
 -- ---- the sequence that a lane is sending
@@ -87,5 +87,5 @@ module _ (n : ℕ) (s : State) (motor : ℕ) where
       → take (16 * motor + 16 - 16 * motor) (drop (16 * motor) buffer) ≡ shown (step n s (sending motor) .answer)
   shown-so {buffer} b e h =
       part-is 16 motor buffer
-      ∙ ap (λ (l : List ℕ). take 16 (drop (16 * motor) l)) b
+      ∙ ap (λ (l : List ℕ). part 16 motor l) b
       ∙ ap (λ (x : Stepped). shown (x .answer)) (sending-is e h)

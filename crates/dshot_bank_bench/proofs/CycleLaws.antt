@@ -8,10 +8,11 @@ use Prim.Native.Nat.{ℕ, suc, _+_, _*_, _/_, _%_, _^_}
 use native.Mathlib.Omega.{arith}
 use native.Mathlib.Numerals.{add-one}
 use lib.Dec.{eqb}
-use lib.ListN.{length, getD, take, drop}
+use lib.ListN.{length, getD}
 use borrow.Author.Tests.{eqb-true}
 use Rattle.dshot_reply_spec.specs.Answer.{Answer, given, refused, pick, refusalNumber, filled}
 use Rattle.dshot_reply_spec.proofs.Answered.{refused-so, given-so}
+use Rattle.dshot_spec.specs.Tabulate.{part}
 use Rattle.dshot_bank_spec.specs.Calls as Calls
 use Rattle.dshot_bank_spec.specs.Calls.{Call, State, Stepped, step, on-dma-interrupt}
 use Rattle.dshot_bank.proofs.ReplyLaws.{fit-both}
@@ -60,7 +61,7 @@ interrupts-more i r = rw add-one
 module _ (present : Bool) (mask count : ℕ) (throttles captures : List ℕ) (r : Run) where
   pub cycles-more : (n : ℕ)
       → cycles present mask count throttles captures r (n + 1)
-      ≡ cycle (throttlesAt throttles n) present mask (take 640 (drop (640 * n) captures)) count n (cycles present mask count throttles captures r n)
+      ≡ cycle (throttlesAt throttles n) present mask (part 640 n captures) count n (cycles present mask count throttles captures r n)
   unfolding cycles
   cycles-more n = rw add-one
 

@@ -5,11 +5,11 @@ use Prim.Native.Nat.{ℕ, zero, suc, _+_, _*_, _/_, _%_, _^_}
 use mathlib.Core.Bool.{Bool, true, false, not}
 use mathlib.Core.List.{List, [], _∷_}
 use lib.Dec.{eqb}
-use lib.ListN.{length, getD, take, drop, replicate}
+use lib.ListN.{length, getD, replicate}
 use Rattle.dshot_reply_spec.specs.Answer.{pick, wrongLength}
 use Rattle.dshot_reply_spec.specs.Answer as Reply
 use Rattle.dshot_reply_spec.specs.Value.{Reading, erpm, temp, volt, amp, debug, state, edt}
-use Rattle.dshot_spec.specs.Tabulate.{tabulate}
+use Rattle.dshot_spec.specs.Tabulate.{tabulate, part}
 use Rattle.dshot_bank_spec.specs.State.{Stats, LaneReply, Bank, Buffers}
 use Rattle.dshot_bank_spec.specs.Commands.{fromLanes}
 use Rattle.dshot_bank_spec.specs.Calls.{Call, State, step, enable-bidirectional, command-throttles, service-call, on-dma-interrupt}
@@ -68,7 +68,7 @@ cycle throttles present mask samples count n r =
 unfoldable pub cycles : Bool → ℕ → ℕ → List ℕ → List ℕ → Run → ℕ → Run
 cycles present mask count throttles captures r zero = r
 cycles present mask count throttles captures r (suc n) =
-    cycle (throttlesAt throttles n) present mask (take 640 (drop (640 * n) captures)) count n (cycles present mask count throttles captures r n)
+    cycle (throttlesAt throttles n) present mask (part 640 n captures) count n (cycles present mask count throttles captures r n)
 
 -- a new bank with its timing and its buffers, bidirectional or not; nothing is ordered yet
 abbrev pub start : ℕ → ℕ → ℕ → ℕ → Bool → Buffers → Run

@@ -9,6 +9,7 @@ use native.Mathlib.Decide.{decLt}
 use lib.ListN.{length, take, drop, length-append, length-drop, take-append-drop}
 use lib.Seq.{length-take-le, take-at, drop-at}
 use Rattle.dshot_reply_spec.specs.Answer.{pick}
+use Rattle.dshot_spec.specs.Tabulate.{part}
 use Rattle.dshot_bank_spec.specs.Lanes.{each}
 use Rattle.dshot_bank_spec.specs.State.{Buffers}
 use Rattle.dshot_bank_spec.specs.Send.{putSlots, writeSpare}
@@ -16,7 +17,7 @@ use Rattle.dshot_bank_spec.proofs.LaneLaws.{part-before}
 
 -- a lane's 16 slots of a buffer
 abbrev pub laneSlots : ℕ → List ℕ → List ℕ
-laneSlots lane l = take 16 (drop (16 * lane) l)
+laneSlots lane l = part 16 lane l
 
 -- the spare of a lane, by its mark
 abbrev pub spare : Bool → Buffers → List ℕ

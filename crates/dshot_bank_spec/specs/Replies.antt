@@ -2,14 +2,14 @@
 -- Stands for `decode_replies` of crates/ferrowasp-stm32-critical/src/dshot_bank.rs (Eirik2020/ferro-wasp, commit 9cb8aca1a6, Copyright (c) 2026
 -- Kaldstrand, Apache-2.0), changed: rewritten as definitions, over n lanes, with the windows in one buffer.
 -- Assumes nothing.
-use Prim.Native.Nat.{ℕ, _+_, _-_, _*_, _%_, _^_, min}
+use Prim.Native.Nat.{ℕ, _+_, _-_, _%_, _^_, min}
 use mathlib.Core.Bool.{Bool, false}
 use mathlib.Core.List.{List}
-use lib.ListN.{getD, take, drop}
+use lib.ListN.{getD}
 use Rattle.dshot_reply_spec.specs.Answer.{Answer, refused, isGiven, noReply}
 use Rattle.dshot_reply_spec.specs.Value.{Reading}
 use Rattle.dshot_reply_spec.specs.Reading.{sampledReply}
-use Rattle.dshot_spec.specs.Tabulate.{tabulate}
+use Rattle.dshot_spec.specs.Tabulate.{tabulate, part}
 use Rattle.dshot_bank_spec.specs.Lanes.{if_then_else_}
 use Rattle.dshot_bank_spec.specs.State.{LaneReply}
 use Rattle.dshot_bank_spec.specs.Commands.{noReplies}
@@ -24,7 +24,7 @@ saturatingAdd count = min (count + 1) (2 ^ 32 - 1)
 
 -- a lane's window: 160 samples of the capture buffer
 abbrev pub window : List ℕ → ℕ → List ℕ
-window samples lane = take 160 (drop (160 * lane) samples)
+window samples lane = part 160 lane samples
 
 -- a lane's reply: what the reader makes of its window and mask with extended telemetry off, or no reply where no capture is present
 abbrev pub readWindow : Bool → List ℕ → ℕ → Answer Reading
