@@ -26,8 +26,8 @@ use Rattle.dshot_bank.specs.declared.DshotMotor.{DshotMotor}
 use Rattle.dshot_bank.specs.declared.DshotMotor.the-variants.{Motor1, Motor2, Motor3, Motor4}
 use Rattle.dshot_bank.specs.declared.MotorChoice.{MotorChoice}
 use Rattle.dshot_bank.specs.declared.MotorChoice.the-variants as Choice
-use Rattle.dshot_bank.specs.declared.CommandRun.{CommandRun}
-use Rattle.dshot_bank.specs.declared.CommandRun.the-variants as Run
+use Rattle.dshot_bank.specs.declared.MotorRun.{MotorRun}
+use Rattle.dshot_bank.specs.declared.MotorRun.the-variants as Run
 use Rattle.dshot_bank.specs.declared.DshotStats.{DshotStats}
 use Rattle.dshot_bank.specs.declared.Core.{Core}
 use Rattle.dshot_bank.specs.declared.StoredReply.{StoredReply}
@@ -110,16 +110,16 @@ lease-back (suc n) = ap leaseBack (lease-held n (suc n) (omega arith))
 pub leaseOf-injective : (l m : ℕ) → leaseOf l ≡ leaseOf m → l ≡ m
 leaseOf-injective = injective leaseOf leaseBack lease-back
 
-runBack : Option Spec.MotorRun → CommandRun
+runBack : Option Spec.MotorRun → MotorRun
 runBack none = Run.None
 runBack (some r) = Run.Some (motorBack (r .motor)) (getD (r .sequence .commands) 0 0) (getD (r .sequence .commands) 1 0) (r .sequence .index) (r .sequence .repeatsLeft)
 
-run-back : (r : CommandRun) → runBack (commandSequenceOf r) ≡ r
+run-back : (r : MotorRun) → runBack (commandSequenceOf r) ≡ r
 unfolding runBack
 run-back Run.None = refl
 run-back (Run.Some m a b i l) = ap (λ (n : DshotMotor). Run.Some n a b i l) (motor-back m)
 
-pub commandSequenceOf-injective : (r s : CommandRun) → commandSequenceOf r ≡ commandSequenceOf s → r ≡ s
+pub commandSequenceOf-injective : (r s : MotorRun) → commandSequenceOf r ≡ commandSequenceOf s → r ≡ s
 commandSequenceOf-injective = injective commandSequenceOf runBack run-back
 
 -- ---- the bank

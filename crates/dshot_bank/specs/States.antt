@@ -17,8 +17,8 @@ use Rattle.dshot_bank.specs.declared.MotorChoice.{MotorChoice}
 use Rattle.dshot_bank.specs.declared.MotorChoice.the-variants as MotorChoice·
 use Rattle.dshot_bank.specs.declared.DshotStats.{DshotStats}
 use Rattle.dshot_bank.specs.declared.Demand.{Demand}
-use Rattle.dshot_bank.specs.declared.CommandRun.{CommandRun}
-use Rattle.dshot_bank.specs.declared.CommandRun.the-variants as CommandRun·
+use Rattle.dshot_bank.specs.declared.MotorRun.{MotorRun}
+use Rattle.dshot_bank.specs.declared.MotorRun.the-variants as MotorRun·
 use Rattle.dshot_bank.specs.declared.Requests.{Requests}
 use Rattle.dshot_bank.specs.declared.Frame.{Frame}
 use Rattle.dshot_bank.specs.declared.Core.{Core}
@@ -51,9 +51,9 @@ abbrev pub telemetryOf : Requests → Spec.Telemetry
 telemetryOf r = record { request = choiceOf (r .«telemetry_request»); requestSent = choiceOf (r .«telemetry_request_sent») }
 
 -- the Rust's `Option<(DshotMotor, DshotCommandSequence)>`
-abbrev pub commandSequenceOf : CommandRun → Option Spec.MotorRun
-commandSequenceOf CommandRun·.None = none
-commandSequenceOf (CommandRun·.Some m first second i left) = some (record { motor = motorOf m; sequence = record { commands = first ∷ second ∷ []; index = i; repeatsLeft = left } })
+abbrev pub commandSequenceOf : MotorRun → Option Spec.MotorRun
+commandSequenceOf MotorRun·.None = none
+commandSequenceOf (MotorRun·.Some m first second i left) = some (record { motor = motorOf m; sequence = record { commands = first ∷ second ∷ []; index = i; repeatsLeft = left } })
 
 abbrev pub frameOf : Frame → Spec.Frame
 frameOf f = record {

@@ -3,7 +3,6 @@
 //
 // The calls that command a bank: demands, runs of special commands, and telemetry requests.
 
-use crate::CommandRun;
 use crate::Core;
 use crate::DSHOT_COMMAND_MAX;
 use crate::Demand;
@@ -11,6 +10,7 @@ use crate::DshotBank;
 use crate::DshotMotor;
 use crate::LANES;
 use crate::MotorChoice;
+use crate::MotorRun;
 use crate::Requests;
 use dshot::DshotCommandSequence;
 use dshot::MotorValues;
@@ -201,12 +201,12 @@ impl MotorChoice {
     }
 }
 
-impl CommandRun {
+impl MotorRun {
     pub(crate) fn of(motor: DshotMotor, sequence: DshotCommandSequence) -> Self
         ensures { λ r. ⌜ commandSequenceOf r ≡ some (record { motor = motorOf motor; sequence = runOf sequence }) ⌝ }
     {
         let commands = sequence.commands;
-        CommandRun::Some {
+        MotorRun::Some {
             motor,
             first: commands[0],
             second: commands[1],
@@ -219,8 +219,8 @@ impl CommandRun {
         ensures { λ r. ⌜ r ≡ isSome (commandSequenceOf self) ⌝ }
     {
         match self {
-            CommandRun::Some { .. } => true,
-            CommandRun::None => false,
+            MotorRun::Some { .. } => true,
+            MotorRun::None => false,
         }
     }
 }
@@ -240,7 +240,7 @@ impl Requests {
     }
 
     // With another run.
-    pub(crate) fn running(self, run: CommandRun) -> Self
+    pub(crate) fn running(self, run: MotorRun) -> Self
         ensures { λ r. ⌜ r ≡ record { «telemetry_request» = self .«telemetry_request»; «telemetry_request_sent» = self .«telemetry_request_sent»; «command_sequence» = run } ⌝ }
     {
         let request = self.telemetry_request;
@@ -367,7 +367,7 @@ impl DshotBank {
                 bank: self,
             };
         }
-        let queued = requests.running(CommandRun::of(motor, sequence));
+        let queued = requests.running(MotorRun::of(motor, sequence));
         let mut core = self.core;
         core.requests = queued;
         self.core = core;

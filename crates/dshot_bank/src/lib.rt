@@ -146,7 +146,7 @@ pub struct Demand {
 
 // Special-command frames still to send, for one motor: the fields of its `DshotCommandSequence`, since an enum holds no array. Sent only while
 // every throttle is zero; a throttle demand that is in force when a frame starts cancels it.
-pub enum CommandRun {
+pub enum MotorRun {
     None,
     Some {
         motor: DshotMotor,
@@ -160,7 +160,7 @@ pub enum CommandRun {
 pub struct Requests {
     pub telemetry_request: MotorChoice,
     pub telemetry_request_sent: MotorChoice,
-    pub command_sequence: CommandRun,
+    pub command_sequence: MotorRun,
 }
 
 // In this order the fields leave no gap between them: a gap would be copied apart, and keep the struct out of registers.
@@ -235,7 +235,7 @@ impl DshotBank {
         let requests = Requests {
             telemetry_request: MotorChoice::None,
             telemetry_request_sent: MotorChoice::None,
-            command_sequence: CommandRun::None,
+            command_sequence: MotorRun::None,
         };
         let core = Core {
             timing,

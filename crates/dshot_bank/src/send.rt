@@ -4,12 +4,12 @@
 //
 // Latching a fault, and sending a frame set.
 
-use crate::CommandRun;
 use crate::Core;
 use crate::DshotMotor;
 use crate::DshotStats;
 use crate::LANES;
 use crate::MotorChoice;
+use crate::MotorRun;
 use crate::Requests;
 use crate::commands::any_requested;
 use crate::looks::buffers_fit;
@@ -54,7 +54,7 @@ pub(crate) enum FrameCommand {
 // The next special-command frame, and the run that is left.
 pub(crate) struct NextFrame {
     pub command: FrameCommand,
-    pub left: CommandRun,
+    pub left: MotorRun,
 }
 
 // What is sent to each lane, and the telemetry request that is carried.
@@ -119,7 +119,7 @@ impl Core {
         let requests = Requests {
             telemetry_request: MotorChoice::None,
             telemetry_request_sent: MotorChoice::None,
-            command_sequence: CommandRun::None,
+            command_sequence: MotorRun::None,
         };
         self.requests = requests;
         self.stopped()
@@ -129,15 +129,15 @@ impl Core {
 // ---- what is sent
 
 // The next frame of a run.
-fn next_of_run(run: CommandRun) -> NextFrame
+fn next_of_run(run: MotorRun) -> NextFrame
     ensures { λ r. ⌜ nextFrameOf r ≡ nextOfRun (commandSequenceOf run) ⌝ }
 {
     match run {
-        CommandRun::None => NextFrame {
+        MotorRun::None => NextFrame {
             command: FrameCommand::None,
-            left: CommandRun::None,
+            left: MotorRun::None,
         },
-        CommandRun::Some {
+        MotorRun::Some {
             motor,
             first,
             second,
@@ -163,7 +163,7 @@ fn next_of(motor: DshotMotor, value: CommandValue, sequence: DshotCommandSequenc
 {
     match value {
         CommandValue::Value(command) => {
-            let left = CommandRun::of(motor, sequence);
+            let left = MotorRun::of(motor, sequence);
             NextFrame {
                 command: FrameCommand::Some(motor, command),
                 left,
@@ -171,7 +171,7 @@ fn next_of(motor: DshotMotor, value: CommandValue, sequence: DshotCommandSequenc
         }
         CommandValue::None => NextFrame {
             command: FrameCommand::None,
-            left: CommandRun::None,
+            left: MotorRun::None,
         },
     }
 }
@@ -209,7 +209,7 @@ impl Core {
         if any_requested(values) {
             return NextFrame {
                 command: FrameCommand::None,
-                left: CommandRun::None,
+                left: MotorRun::None,
             };
         }
         let requests = self.requests;

@@ -13,10 +13,10 @@ use case_text::widths::wide8;
 use case_text::widths::wide16;
 use case_text::widths::wide32;
 use dshot::DshotTiming;
-use dshot_bank::CommandRun;
 use dshot_bank::Demand;
 use dshot_bank::DshotBank;
 use dshot_bank::Frame;
+use dshot_bank::MotorRun;
 use dshot_bank::Requests;
 
 // No call on a bank changes it: it is printed so that one that did would show.
@@ -38,10 +38,10 @@ fn of_lease(over_after: u64) -> Part {
 }
 
 // 0, or the motor and the run.
-fn of_run(run: CommandRun) -> Part {
+fn of_run(run: MotorRun) -> Part {
     match run {
-        CommandRun::None => part::one(0),
-        CommandRun::Some {
+        MotorRun::None => part::one(0),
+        MotorRun::Some {
             motor,
             first,
             second,

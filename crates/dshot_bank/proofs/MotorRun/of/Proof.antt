@@ -1,4 +1,4 @@
--- `dshot_bank::CommandRun::of` meets its contract.
+-- `dshot_bank::MotorRun::of` meets its contract.
 -- Assumes nothing.
 use mathlib.Core.Path.{ap}
 use Rattle.dshot_bank.proofs.SendLaws.{two}
@@ -7,8 +7,8 @@ use mathlib.Core.List.{List}
 use mathlib.Core.Option.{some}
 use Rattle.dshot_bank.specs.States.{motorOf}
 use borrow.Author.Needs.{needs}
-use Rattle.dshot_bank.proofs.CommandRun.of.Statement.{statement}
-use Rattle.dshot_bank.proofs.CommandRun.of.Tie as tie
+use Rattle.dshot_bank.proofs.MotorRun.of.Statement.{statement}
+use Rattle.dshot_bank.proofs.MotorRun.of.Tie as tie
 
 array-read-t6 : tie.Need-array-read-t6
 array-read-t6 c = search needs
