@@ -17,7 +17,7 @@ use Rattle.capture_file.proofs.HeadLaws.{head-few}
 use Rattle.capture_file.proofs.ReadBack.{file-most}
 use Rattle.capture_file.proofs.ReadLaws.{groups-start}
 use Rattle.capture_file.proofs.WriteLaws.{put-first}
-use Rattle.capture_file.specs.File.{captureSamples, captureFileBytes, readNumber, readAll, Capture, capture, Head, readHead, readFile}
+use Rattle.capture_file.specs.File.{fileSamples, fileBytes, readNumber, readAll, Capture, capture, Head, readHead, readFile}
 use Rattle.capture_file.specs.File.{fileOf, front, slotsOf, readInto, writtenInto, Told, told, byteCount}
 use Rattle.capture_file.specs.FileSteps.{put}
 
@@ -36,7 +36,7 @@ head-start : (s : List ℕ) → Read (readHead s)
 unfolding readHead
 head-start s =
     read-then _ (number-start s) (λ count. read-then _ (number-start (count .rest)) (λ mask. read-then _ (number-start (mask .rest)) (λ edt.
-    read-pick (ltb captureSamples (count .number)) (read-pick (ltb 1 (edt .number)) (found _)))))
+    read-pick (ltb fileSamples (count .number)) (read-pick (ltb 1 (edt .number)) (found _)))))
 
 pub file-start : (s : List ℕ) → Read (readFile s)
 unfolding readFile
@@ -59,7 +59,7 @@ unfolding readFile
 file-is bytes xs head e f = rw (e, f)
 
 -- no more samples than there are slots
-pub file-few : (bytes : List ℕ) (c : Capture) → readFile bytes ≡ given c → length (c .samples) ≤ captureSamples
+pub file-few : (bytes : List ℕ) (c : Capture) → readFile bytes ≡ given c → length (c .samples) ≤ fileSamples
 unfolding readFile
 file-few bytes c e =
     let t = then-given (readHead bytes) _ e in
@@ -79,19 +79,19 @@ module _ (bytes slots : List ℕ) where
   refused-so : (n : ℕ) → readInto bytes slots ≡ refused n → ReadSo bytes slots (refused n) slots
   refused-so n e = (sym (ap (λ (a : Answer Capture). then a told) e), sym (ap (filled (slotsOf slots) slots) e))
 
-  pub wrong-slots : (length slots ≡ captureSamples → ⊥) → ReadSo bytes slots (refused wrongLength) slots
+  pub wrong-slots : (length slots ≡ fileSamples → ⊥) → ReadSo bytes slots (refused wrongLength) slots
   unfolding readInto
-  wrong-slots h = refused-so wrongLength (rw (ne-eqb (length slots) captureSamples h))
+  wrong-slots h = refused-so wrongLength (rw (ne-eqb (length slots) fileSamples h))
 
   -- what is read into slots is what the file holds
   pub into-given : (c : Capture) → readInto bytes slots ≡ given c → readFile bytes ≡ given c
   unfolding readInto
-  into-given c e = first-given _ (eqb (length slots) captureSamples) e .1
+  into-given c e = first-given _ (eqb (length slots) fileSamples) e .1
 
-  module _ (h : length slots ≡ captureSamples) where
+  module _ (h : length slots ≡ fileSamples) where
     pub into-is : readInto bytes slots ≡ readFile bytes
     unfolding readInto
-    into-is = rw (eq-eqb (length slots) captureSamples h)
+    into-is = rw (eq-eqb (length slots) fileSamples h)
 
     pub no-head : readHead bytes ≡ refused notACapture → ReadSo bytes slots (refused notACapture) slots
     unfolding readFile
@@ -125,31 +125,31 @@ module _ (c : Capture) (out : List ℕ) where
   written-so : (a : Answer (List ℕ)) → writtenInto c out ≡ a → WrittenSo c out (then a byteCount) (filled (front out) out a)
   written-so a e = (sym (ap (λ (x : Answer (List ℕ)). then x byteCount) e), sym (ap (filled (front out) out) e))
 
-  pub too-many : captureSamples < length (c .samples) → WrittenSo c out (refused wrongLength) out
+  pub too-many : fileSamples < length (c .samples) → WrittenSo c out (refused wrongLength) out
   unfolding writtenInto
-  too-many h = written-so (refused wrongLength) (rw (lt-ltb captureSamples (length (c .samples)) h))
+  too-many h = written-so (refused wrongLength) (rw (lt-ltb fileSamples (length (c .samples)) h))
 
-  module _ (h : length (c .samples) ≤ captureSamples) where
-    few : ltb captureSamples (length (c .samples)) ≡ false
-    few = le-ltb captureSamples (length (c .samples)) h
+  module _ (h : length (c .samples) ≤ fileSamples) where
+    few : ltb fileSamples (length (c .samples)) ≡ false
+    few = le-ltb fileSamples (length (c .samples)) h
 
-    pub wrong-buffer : (length out ≡ captureFileBytes → ⊥) → WrittenSo c out (refused wrongLength) out
+    pub wrong-buffer : (length out ≡ fileBytes → ⊥) → WrittenSo c out (refused wrongLength) out
     unfolding writtenInto
-    wrong-buffer n = written-so (refused wrongLength) (rw (few, ne-eqb (length out) captureFileBytes n))
+    wrong-buffer n = written-so (refused wrongLength) (rw (few, ne-eqb (length out) fileBytes n))
 
-    pub all-written : {n : ℕ} {after : List ℕ} → length out ≡ captureFileBytes → n ≡ length (fileOf c) → after ≡ put 0 (fileOf c) out
+    pub all-written : {n : ℕ} {after : List ℕ} → length out ≡ fileBytes → n ≡ length (fileOf c) → after ≡ put 0 (fileOf c) out
         → WrittenSo c out (given n) after
     unfolding writtenInto
     all-written l e f =
-        let so = written-so (given (fileOf c)) (rw (few, eq-eqb (length out) captureFileBytes l)) in
+        let so = written-so (given (fileOf c)) (rw (few, eq-eqb (length out) fileBytes l)) in
         (ap given e ∙ so .0, f ∙ put-first (fileOf c) out ∙ so .1)
 
 -- a length that is answered is one of a file
-pub written-fits : (c : Capture) (out : List ℕ) (n : ℕ) → given n ≡ then (writtenInto c out) byteCount → n ≤ captureFileBytes
+pub written-fits : (c : Capture) (out : List ℕ) (n : ℕ) → given n ≡ then (writtenInto c out) byteCount → n ≤ fileBytes
 unfolding writtenInto
 written-fits c out n e =
     let w = then-given (writtenInto c out) byteCount (sym e) in
-    let p = second-given _ (ltb captureSamples (length (c .samples))) (w .1) in
-    let q = first-given _ (eqb (length out) captureFileBytes) (p .1) in
-    let few = ltb-false captureSamples (length (c .samples)) (p .0) in
+    let p = second-given _ (ltb fileSamples (length (c .samples))) (w .1) in
+    let q = first-given _ (eqb (length out) fileBytes) (p .1) in
+    let few = ltb-false fileSamples (length (c .samples)) (p .0) in
     omega (arith, file-most c few, ap length (same-given (q .1)), same-given (w .2))

@@ -15,7 +15,7 @@ use Rattle.dshot_reply_spec.proofs.Simulated.{simulated-written, simulated-leng
 use Rattle.dshot_reply_spec.specs.Answer.{Answer, given, refused, then}
 use Rattle.dshot_reply_spec.specs.Gcr.{replyWord}
 use Rattle.dshot_reply_spec.specs.Simulate.{levelSample, simulated, wordLevels, wordSamples}
-use Rattle.capture_file.specs.File.{captureSamples, captureFileBytes, Capture, capture, UpTo, Valid, fileOf, readFile}
+use Rattle.capture_file.specs.File.{fileSamples, fileBytes, Capture, capture, UpTo, Valid, fileOf, readFile}
 use Rattle.capture_file.specs.Line.{listedValue, ascii, digit, decimalWithin, lineOf, padded}
 use Rattle.capture_file.specs.declared.line.Line.{Line}
 use Rattle.capture_file.specs.Listing.{listedCapture, fileLine}
@@ -53,7 +53,7 @@ file-line-room bytes r e =
 
 -- ---- more bytes than the longest file has
 
-pub too-long : (bytes : List ℕ) → UpTo 255 bytes → captureFileBytes < length bytes → fileLine bytes ≡ ascii "refused 17\n"
+pub too-long : (bytes : List ℕ) → UpTo 255 bytes → fileBytes < length bytes → fileLine bytes ≡ ascii "refused 17\n"
 too-long bytes u h = go (readFile bytes) refl
   where
     go : (a : Answer Capture) → readFile bytes ≡ a → fileLine bytes ≡ ascii "refused 17\n"
@@ -66,7 +66,7 @@ up-to-take k (suc n) [] u = tt
 up-to-take k (suc n) (x ∷ xs) u = (u .0, up-to-take k n xs (u .1))
 
 -- so a buffer that has room for more than the longest file shows the line of a longer input too
-pub cut-off : (bytes : List ℕ) (n : ℕ) → UpTo 255 bytes → captureFileBytes < n → fileLine (take n bytes) ≡ fileLine bytes
+pub cut-off : (bytes : List ℕ) (n : ℕ) → UpTo 255 bytes → fileBytes < n → fileLine (take n bytes) ≡ fileLine bytes
 cut-off bytes n u h =
     ⊎-elim
     (λ l. too-long (take n bytes) (up-to-take 255 n bytes u) (omega (arith, length-take-le n bytes (omega arith))) ∙ sym (too-long bytes u (omega arith)))
@@ -94,14 +94,14 @@ module _ (out : List ℕ) (v lead mask : ℕ) (extended : Bool) (l : List ℕ) (
       subst (UpTo 65535) (same-given (q .1)) (word-fits (replyWord v) lead mask (length out) m)
 
   -- a file holds what is written into a buffer that has not too many slots
-  pub simulated-valid : length out ≤ captureSamples → Valid (capture mask extended l)
+  pub simulated-valid : length out ≤ fileSamples → Valid (capture mask extended l)
   simulated-valid h = record {
     pins = m;
     count = omega (arith, simulated-length 3 (lit< tt) out v lead mask l e);
     each = samples-fit;
   }
 
-  pub simulated-line : length out ≤ captureSamples
+  pub simulated-line : length out ≤ fileSamples
       → fileLine (fileOf (capture mask extended l)) ≡ lineOf (listedValue (replyWord v) (v % 4096) extended)
   unfolding listedCapture
   simulated-line h = written-line (capture mask extended l) (simulated-valid h) ∙ ap lineOf (simulated-listed out v lead mask l extended e)

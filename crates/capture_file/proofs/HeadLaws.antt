@@ -8,7 +8,7 @@ use borrow.Author.Tests.{lt-ltb, le-ltb, ltb-false}
 use Rattle.dshot_reply_spec.specs.Answer.{given, refused, notACapture}
 use Rattle.dshot_reply_spec.proofs.Given.{second-given, then-given}
 use Rattle.capture_file.proofs.AnswerLaws.{same-given}
-use Rattle.capture_file.specs.File.{captureSamples, Headed, readNumber, Head, readHead}
+use Rattle.capture_file.specs.File.{fileSamples, Headed, readNumber, Head, readHead}
 
 pub no-count : (bytes : List ℕ) → readNumber bytes ≡ refused notACapture → readHead bytes ≡ refused notACapture
 unfolding readHead
@@ -25,18 +25,18 @@ module _ (bytes : List ℕ) (count : Headed) (e : readNumber bytes ≡ given cou
     no-edt g = rw (e, f, g)
 
     module _ (edt : Headed) (g : readNumber (mask .rest) ≡ given edt) where
-      pub too-many : captureSamples < count .number → readHead bytes ≡ refused notACapture
+      pub too-many : fileSamples < count .number → readHead bytes ≡ refused notACapture
       unfolding readHead
-      too-many h = rw (e, f, g, lt-ltb captureSamples (count .number) h)
+      too-many h = rw (e, f, g, lt-ltb fileSamples (count .number) h)
 
-      pub no-flag : count .number ≤ captureSamples → 1 < edt .number → readHead bytes ≡ refused notACapture
+      pub no-flag : count .number ≤ fileSamples → 1 < edt .number → readHead bytes ≡ refused notACapture
       unfolding readHead
-      no-flag h k = rw (e, f, g, le-ltb captureSamples (count .number) h, lt-ltb 1 (edt .number) k)
+      no-flag h k = rw (e, f, g, le-ltb fileSamples (count .number) h, lt-ltb 1 (edt .number) k)
 
-      pub head-is : count .number ≤ captureSamples → edt .number ≤ 1
+      pub head-is : count .number ≤ fileSamples → edt .number ≤ 1
           → readHead bytes ≡ given (record { count = count .number; mask = mask .number; edt = eqb (edt .number) 1; rest = edt .rest })
       unfolding readHead
-      head-is h k = rw (e, f, g, le-ltb captureSamples (count .number) h, le-ltb 1 (edt .number) k)
+      head-is h k = rw (e, f, g, le-ltb fileSamples (count .number) h, le-ltb 1 (edt .number) k)
 
 -- ---- what a head was read from
 
@@ -47,7 +47,7 @@ pub record Parts (bytes : List ℕ) (h : Head) : Type 0 where
   pub count-read : readNumber bytes ≡ given count
   pub mask-read : readNumber (count .rest) ≡ given mask
   pub edt-read : readNumber (mask .rest) ≡ given edt
-  pub few : count .number ≤ captureSamples
+  pub few : count .number ≤ fileSamples
   pub flag : edt .number ≤ 1
   pub same : record { count = count .number; mask = mask .number; edt = eqb (edt .number) 1; rest = edt .rest } ≡ h
 
@@ -57,7 +57,7 @@ parts bytes h e =
     let c = then-given (readNumber bytes) _ e in
     let m = then-given (readNumber (c .0 .rest)) _ (c .2) in
     let f = then-given (readNumber (m .0 .rest)) _ (m .2) in
-    let p = second-given notACapture (ltb captureSamples (c .0 .number)) (f .2) in
+    let p = second-given notACapture (ltb fileSamples (c .0 .number)) (f .2) in
     let q = second-given notACapture (ltb 1 (f .0 .number)) (p .1) in
     record {
       count = c .0;
@@ -66,11 +66,11 @@ parts bytes h e =
       count-read = c .1;
       mask-read = m .1;
       edt-read = f .1;
-      few = ltb-false captureSamples (c .0 .number) (p .0);
+      few = ltb-false fileSamples (c .0 .number) (p .0);
       flag = ltb-false 1 (f .0 .number) (q .0);
       same = same-given (q .1);
     }
 
 -- a file holds no more samples than there are slots
-pub head-few : (bytes : List ℕ) (h : Head) → readHead bytes ≡ given h → h .count ≤ captureSamples
+pub head-few : (bytes : List ℕ) (h : Head) → readHead bytes ≡ given h → h .count ≤ fileSamples
 head-few bytes h e = let p = parts bytes h e in rw (ap (λ (x : Head). x .count) (p .same)) at (p .few)

@@ -10,13 +10,13 @@ use Rattle.dshot_reply_spec.specs.Answer.{Answer, given, refused, then, filled}
 use Rattle.dshot_reply_spec.proofs.Given.{then-given}
 use Rattle.capture_file.proofs.AnswerLaws.{same-given, then-refused}
 use Rattle.capture_file.proofs.CallLaws.{into-is, into-given, file-few}
-use Rattle.capture_file.specs.File.{captureSamples, Capture, front, slotsOf, readInto, Told, told}
+use Rattle.capture_file.specs.File.{fileSamples, Capture, front, slotsOf, readInto, Told, told}
 use Rattle.capture_file.specs.declared.line.Line.{Line}
 use Rattle.capture_file.specs.Line.{listedOf, lineOf, padded}
 use Rattle.capture_file.specs.Listing.{listedCapture, fileLine}
 
 module _ (bytes slots : List ℕ) where
-  pub refused-file : {n : ℕ} {r : Line} → length slots ≡ captureSamples → refused n ≡ then (readInto bytes slots) told
+  pub refused-file : {n : ℕ} {r : Line} → length slots ≡ fileSamples → refused n ≡ then (readInto bytes slots) told
       → r ≡ padded (lineOf (refused n)) → r ≡ padded (fileLine bytes)
   unfolding fileLine
   refused-file h e g =
@@ -28,7 +28,7 @@ module _ (bytes slots : List ℕ) where
     pub capture-of : (c : Capture) × (readInto bytes slots ≡ given c) × (told c ≡ given t)
     capture-of = then-given (readInto bytes slots) told (sym e)
 
-    pub count-fits : t .count ≤ captureSamples
+    pub count-fits : t .count ≤ fileSamples
     count-fits =
         let c = capture-of in
         let n : length (c .0 .samples) ≡ t .count = ap (λ (x : Told). x .count) (same-given (c .2)) in

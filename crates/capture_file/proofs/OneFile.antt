@@ -14,7 +14,7 @@ use Rattle.dshot_reply_spec.proofs.Given.{then-given}
 use Rattle.capture_file.proofs.AnswerLaws.{same-given}
 use Rattle.capture_file.proofs.NumberLaws.{number-written}
 use Rattle.capture_file.proofs.HeadLaws.{parts}
-use Rattle.capture_file.specs.File.{captureSamples, groups, Headed, readNumber, readAll, Capture, UpTo, Valid, allGroups, fileOf}
+use Rattle.capture_file.specs.File.{fileSamples, groups, Headed, readNumber, readAll, Capture, UpTo, Valid, allGroups, fileOf}
 use Rattle.capture_file.specs.File.{Head, readHead, readFile}
 
 up-to-rest : (n : ℕ) (xs ys : List ℕ) → UpTo n (xs ++ ys) → UpTo n ys
@@ -57,7 +57,7 @@ flag-only n h = go (eqb n 1) refl
 abbrev HeadWritten : List ℕ → Head → Type 0
 HeadWritten bytes h =
     (bytes ≡ groups (h .count) ++ (groups (h .mask) ++ (groups (pick (h .edt) 1 0) ++ h .rest)))
-    × (h .count ≤ captureSamples) × (h .mask ≤ 65535) × UpTo 255 (h .rest)
+    × (h .count ≤ fileSamples) × (h .mask ≤ 65535) × UpTo 255 (h .rest)
 
 head-written : (bytes : List ℕ) (h : Head) → UpTo 255 bytes → readHead bytes ≡ given h → HeadWritten bytes h
 head-written bytes h u e =

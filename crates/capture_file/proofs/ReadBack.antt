@@ -10,7 +10,7 @@ use lib.ListN.{length, length-append}
 use borrow.Author.Tests.{le-ltb}
 use Rattle.dshot_reply_spec.specs.Answer.{given, pick}
 use Rattle.capture_file.proofs.NumberLaws.{groups-one, groups-count, groups-short, number-read}
-use Rattle.capture_file.specs.File.{captureSamples, captureFileBytes, groups, readAll, readHead, readFile}
+use Rattle.capture_file.specs.File.{fileSamples, fileBytes, groups, readAll, readHead, readFile}
 use Rattle.capture_file.specs.File.{Capture, UpTo, Valid, allGroups, fileOf}
 
 -- ---- the samples
@@ -57,7 +57,7 @@ all-most : (xs : List ℕ) → length (allGroups xs) ≤ 3 * length xs
 all-most [] = omega arith
 all-most (x ∷ xs) = rw (length-append (groups x) (allGroups xs)) (omega (arith, groups-count x .1, all-most xs))
 
-pub file-most : (c : Capture) → length (c .samples) ≤ captureSamples → length (fileOf c) ≤ captureFileBytes
+pub file-most : (c : Capture) → length (c .samples) ≤ fileSamples → length (fileOf c) ≤ fileBytes
 unfolding fileOf
 file-most c h =
     let flag : ℕ = pick (c .edt) 1 0 in

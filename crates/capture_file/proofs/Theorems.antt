@@ -11,18 +11,18 @@ use Rattle.capture_file.proofs.AnswerLaws.{same-given, same-refusal}
 use Rattle.capture_file.proofs.ReadBack.{file-read, file-most}
 use Rattle.capture_file.proofs.OneFile.{file-written}
 use Rattle.capture_file.proofs.CallLaws.{file-start, into-is}
-use Rattle.capture_file.specs.File.{captureSamples, captureFileBytes, Capture, UpTo, Valid, fileOf, readFile, readInto, writtenInto}
+use Rattle.capture_file.specs.File.{fileSamples, fileBytes, Capture, UpTo, Valid, fileOf, readFile, readInto, writtenInto}
 
 pub written-reads : (c : Capture) → Valid c → readFile (fileOf c) ≡ given c
 written-reads = file-read
 
 -- a reader with its slots has the capture back that a writer with its buffer was given
-pub reads-back : (c : Capture) (slots : List ℕ) → Valid c → length slots ≡ captureSamples → readInto (fileOf c) slots ≡ given c
+pub reads-back : (c : Capture) (slots : List ℕ) → Valid c → length slots ≡ fileSamples → readInto (fileOf c) slots ≡ given c
 reads-back c slots v h = into-is (fileOf c) slots h ∙ written-reads c v
 
-pub writes-all : (c : Capture) (out : List ℕ) → Valid c → length out ≡ captureFileBytes → writtenInto c out ≡ given (fileOf c)
+pub writes-all : (c : Capture) (out : List ℕ) → Valid c → length out ≡ fileBytes → writtenInto c out ≡ given (fileOf c)
 unfolding writtenInto
-writes-all c out v h = rw (le-ltb captureSamples (length (c .samples)) (v .count), eq-eqb (length out) captureFileBytes h)
+writes-all c out v h = rw (le-ltb fileSamples (length (c .samples)) (v .count), eq-eqb (length out) fileBytes h)
 
 -- bytes that read as a capture are the file of that capture, which a file can hold
 pub read-written : (bytes : List ℕ) (c : Capture) → UpTo 255 bytes → readFile bytes ≡ given c → (bytes ≡ fileOf c) × Valid c
@@ -35,7 +35,7 @@ one-file a b c u v e f = read-written a c u e .0 ∙ sym (read-written b c v f .
 pub one-capture : (c d : Capture) → Valid c → Valid d → fileOf c ≡ fileOf d → c ≡ d
 one-capture c d v w e = same-given (sym (written-reads c v) ∙ ap readFile e ∙ written-reads d w)
 
-pub longest : (c : Capture) → Valid c → length (fileOf c) ≤ captureFileBytes
+pub longest : (c : Capture) → Valid c → length (fileOf c) ≤ fileBytes
 longest c v = file-most c (v .count)
 
 -- all other bytes are refused with one number

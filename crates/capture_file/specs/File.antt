@@ -8,11 +8,11 @@ use lib.ListN.{length, drop}
 use Rattle.dshot_reply_spec.specs.Answer.{Answer, given, refused, then, pick, notACapture, wrongLength}
 
 -- the most samples that a file holds, and the most bytes that it has then
-abbrev pub captureSamples : ℕ
-captureSamples = 4096
+abbrev pub fileSamples : ℕ
+fileSamples = 4096
 
-abbrev pub captureFileBytes : ℕ
-captureFileBytes = 12294
+abbrev pub fileBytes : ℕ
+fileBytes = 12294
 
 -- ---- a number
 
@@ -67,7 +67,7 @@ UpTo n (x ∷ xs) = (x ≤ n) × UpTo n xs
 -- a capture that a file holds
 pub record Valid (c : Capture) : Type 0 where
   pub pins : c .mask ≤ 65535
-  pub count : length (c .samples) ≤ captureSamples
+  pub count : length (c .samples) ≤ fileSamples
   pub each : UpTo 65535 (c .samples)
 
 -- the groups of each number of a list
@@ -91,7 +91,7 @@ readHead bytes =
     then (readNumber bytes) (λ count.
     then (readNumber (count .rest)) (λ mask.
     then (readNumber (mask .rest)) (λ edt.
-    pick (ltb captureSamples (count .number)) (refused notACapture)
+    pick (ltb fileSamples (count .number)) (refused notACapture)
     (pick (ltb 1 (edt .number)) (refused notACapture)
     (given (record { count = count .number; mask = mask .number; edt = eqb (edt .number) 1; rest = edt .rest }))))))
 
@@ -114,13 +114,13 @@ slotsOf slots c = front slots (c .samples)
 
 -- a file read into slots, of which there are as many as a file has samples at most
 unfoldable pub readInto : List ℕ → List ℕ → Answer Capture
-readInto bytes slots = pick (eqb (length slots) captureSamples) (readFile bytes) (refused wrongLength)
+readInto bytes slots = pick (eqb (length slots) fileSamples) (readFile bytes) (refused wrongLength)
 
 -- the bytes of a capture, for a buffer that has room for every file
 unfoldable pub writtenInto : Capture → List ℕ → Answer (List ℕ)
 writtenInto c out =
-    pick (ltb captureSamples (length (c .samples))) (refused wrongLength)
-    (pick (eqb (length out) captureFileBytes) (given (fileOf c)) (refused wrongLength))
+    pick (ltb fileSamples (length (c .samples))) (refused wrongLength)
+    (pick (eqb (length out) fileBytes) (given (fileOf c)) (refused wrongLength))
 
 -- what the reader tells of a capture beside its samples
 pub record Told : Type 0 where

@@ -1,4 +1,4 @@
-// Reads a capture file into slots for its samples, and writes one into a buffer.
+// Added: reads a capture file into slots for its samples, and writes one into a buffer.
 
 use crate::number::NumberRead;
 use crate::number::put_number;
@@ -13,10 +13,10 @@ ghost use Rattle.capture_file.specs.FileAnswers.{readAnswer, writtenAnsw
 ghost use Rattle.capture_file.specs.FileSteps.{put, headAnswer};
 
 // The most samples that a file holds.
-pub const CAPTURE_SAMPLES: usize = 4096;
+pub const FILE_SAMPLES: usize = 4096;
 
 // The bytes of the longest file: two for the count, three for the mask, one for EDT, and three for each sample.
-pub const CAPTURE_FILE_BYTES: usize = 12294;
+pub const FILE_BYTES: usize = 12294;
 
 // What stands before the samples of a file, and the place of the first sample.
 enum HeadRead {
@@ -57,7 +57,7 @@ fn read_head(file: &[u8]) -> HeadRead
         return HeadRead::NotACapture;
     };
     let count = wide(count);
-    if CAPTURE_SAMPLES < count {
+    if FILE_SAMPLES < count {
         return HeadRead::NotACapture;
     }
     if 1 < edt {
@@ -124,14 +124,14 @@ pub enum CaptureRead {
     WrongLength,
 }
 
-// Reads a file whose samples go into the first of `CAPTURE_SAMPLES` slots. The others stay as they were, and all of them where the answer is a
+// Reads a file whose samples go into the first of `FILE_SAMPLES` slots. The others stay as they were, and all of them where the answer is a
 // refusal: the whole file is read before the first slot is filled.
 pub fn read_capture(file: &[u8], samples: &mut [u16]) -> CaptureRead
     ensures { λ r. ⌜ readAnswer r ≡ then (readInto (now (file .entry)) (now (samples .entry))) told ⌝ }
     ensures { λ r. ⌜ now (samples .exit)
         ≡ filled (slotsOf (now (samples .entry))) (now (samples .entry)) (readInto (now (file .entry)) (now (samples .entry))) ⌝ }
 {
-    if samples.len() != CAPTURE_SAMPLES {
+    if samples.len() != FILE_SAMPLES {
         return CaptureRead::WrongLength;
     }
     let HeadRead::Head {
@@ -181,7 +181,7 @@ fn flag(set: bool) -> u16
     if set { 1 } else { 0 }
 }
 
-// Writes the file of a capture at the front of a buffer of `CAPTURE_FILE_BYTES`, and leaves the rest of the buffer as it was.
+// Writes the file of a capture at the front of a buffer of `FILE_BYTES`, and leaves the rest of the buffer as it was.
 pub fn write_capture(
     samples: &[u16],
     pin_mask: u16,
@@ -194,10 +194,10 @@ pub fn write_capture(
         ≡ filled (front (now (file .entry))) (now (file .entry))
         (writtenInto (capture «pin_mask» «extended_telemetry» (now (samples .entry))) (now (file .entry))) ⌝ }
 {
-    if CAPTURE_SAMPLES < samples.len() {
+    if FILE_SAMPLES < samples.len() {
         return CaptureWritten::WrongLength;
     }
-    if file.len() != CAPTURE_FILE_BYTES {
+    if file.len() != FILE_BYTES {
         return CaptureWritten::WrongLength;
     }
     let at = put_number(file, 0, samples.len() as u16);

@@ -1,7 +1,7 @@
 // Added: the line of a capture file.
 
-use crate::file::CAPTURE_SAMPLES;
 use crate::file::CaptureRead;
+use crate::file::FILE_SAMPLES;
 use crate::file::read_capture;
 use crate::line::Line;
 use crate::line::line_of;
@@ -14,7 +14,7 @@ ghost use Rattle.capture_file.specs.Listing.{fileLine};
 pub fn file_line(file: &[u8]) -> Line
     ensures { λ r. ⌜ r ≡ padded (fileLine (now (file .entry))) ⌝ }
 {
-    let mut samples = [0u16; CAPTURE_SAMPLES];
+    let mut samples = [0u16; FILE_SAMPLES];
     match read_capture(file, &mut samples) {
         CaptureRead::Capture {
             count,

@@ -1,4 +1,4 @@
-// A number of a capture file: groups of seven bits, lowest first, the top bit set on all groups but the last, in the shortest form.
+// Added: a number of a capture file, in groups of seven bits, lowest first, the top bit set on all groups but the last, in the shortest form.
 
 ghost use mathlib.Core.Path.{_≡_};
 ghost use Prim.Native.Nat.{_+_, _≤_};

@@ -7,7 +7,7 @@ use native.Mathlib.Omega.{arith}
 use lib.ListN.{drop}
 use borrow.Author.Needs.{needs}
 use Rattle.dshot_reply_spec.specs.Answer.{given}
-use Rattle.capture_file.specs.File.{captureSamples, Headed, headed, readNumber}
+use Rattle.capture_file.specs.File.{fileSamples, Headed, headed, readNumber}
 use Rattle.capture_file.specs.FileSteps.{numberAnswer}
 use Rattle.capture_file.proofs.HeadLaws.{no-count, no-mask, no-edt, too-many, no-flag, head-is}
 use Rattle.capture_file.proofs.file.read_head.Statement.{statement}
@@ -97,7 +97,7 @@ returns-4 c =
     let f = c .before .before .before in
     let m = mask-of f in
     let n = count-of m in
-    let many : captureSamples < count n .number = omega (arith, c .if1 .taken, c .before .wide .ensures) in
+    let many : fileSamples < count n .number = omega (arith, c .if1 .taken, c .before .wide .ensures) in
     sym (too-many (file-of n) (count n) (count-read n) (mask m) (mask-read m) (edt f) (edt-read f) many)
 
 returns-5 : tie.Need-returns-5
@@ -105,7 +105,7 @@ returns-5 c =
     let f = c .before .before .before .before in
     let m = mask-of f in
     let n = count-of m in
-    let few : count n .number ≤ captureSamples = omega (arith, c .before .if1 .left, c .before .before .wide .ensures) in
+    let few : count n .number ≤ fileSamples = omega (arith, c .before .if1 .left, c .before .before .wide .ensures) in
     sym (no-flag (file-of n) (count n) (count-read n) (mask m) (mask-read m) (edt f) (edt-read f) few (omega (arith, c .if2 .taken)))
 
 returns-6 : tie.Need-returns-6
@@ -114,7 +114,7 @@ returns-6 c =
     let m = mask-of f in
     let n = count-of m in
     let wide = c .before .before .wide .ensures in
-    let few : count n .number ≤ captureSamples = omega (arith, c .before .if1 .left, wide) in
+    let few : count n .number ≤ fileSamples = omega (arith, c .before .if1 .left, wide) in
     rw wide (sym (head-is (file-of n) (count n) (count-read n) (mask m) (mask-read m) (edt f) (edt-read f) few (omega (arith, c .if2 .left))))
 
 pub read-head-spec : {M : Type 1} → statement M
