@@ -8,19 +8,19 @@ use Rattle.dshot_bank_spec.specs.State.{Core}
 use Rattle.dshot_bank_spec.specs.Commands.{MotorCommand}
 use Rattle.dshot_bank_spec.specs.Send.{frameSet}
 use Rattle.bank_slots_spec.specs.Parts.{carriedBy}
-use Rattle.bank_slots.specs.declared.send.NextFrame.{NextFrame}
-use Rattle.bank_slots.specs.declared.send.NextFrame.the-variants as NextFrame·
+use Rattle.bank_slots.specs.declared.send.FrameCommand.{FrameCommand}
+use Rattle.bank_slots.specs.declared.send.FrameCommand.the-variants as FrameCommand·
 use Rattle.bank_slots.specs.declared.send.FrameSet.{FrameSet}
 
 -- the Rust's `Option<(DshotMotor, u16)>`
-abbrev pub motorCommandOf : NextFrame → Option MotorCommand
-motorCommandOf NextFrame·.None = none
-motorCommandOf (NextFrame·.Command m v) = some (record { motor = m; command = v })
+abbrev pub motorCommandOf : FrameCommand → Option MotorCommand
+motorCommandOf FrameCommand·.None = none
+motorCommandOf (FrameCommand·.Command m v) = some (record { motor = m; command = v })
 
 -- a command is for one of the four lanes
-abbrev pub OnLane : NextFrame → Type 0
-OnLane NextFrame·.None = Unit
-OnLane (NextFrame·.Command m v) = m < 4
+abbrev pub OnLane : FrameCommand → Type 0
+OnLane FrameCommand·.None = Unit
+OnLane (FrameCommand·.Command m v) = m < 4
 
 -- the same values and telemetry lane, and the request that is carried
 pub record Sets (r : FrameSet) (c : Core) (m : Option MotorCommand) : Type 0 where

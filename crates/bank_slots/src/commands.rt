@@ -10,8 +10,8 @@ use crate::LEASE_OVER;
 use crate::LEASE_STARTED;
 use crate::REPLIES;
 use crate::REQUEST;
+use crate::REQUEST_SENT;
 use crate::RUN;
-use crate::SENT;
 use crate::SLOTS;
 use crate::VALUES;
 use crate::memory::flag;
@@ -38,9 +38,11 @@ ghost use Rattle.dshot_bank_spec.specs.State.{Buffers};
 ghost use Rattle.dshot_bank_spec.specs.Commands.{fromLanes, isRunning};
 ghost use Rattle.dshot_bank_spec.specs.Calls as Call;
 ghost use Rattle.bank_slots_spec.specs.Memory.{at};
-ghost use Rattle.bank_slots_spec.specs.Layout.{slots, choice, timingAt, load, store};
+ghost use Rattle.bank_slots_spec.specs.Places.{slots};
+ghost use Rattle.bank_slots_spec.specs.Load.{choice, timingAt, load};
+ghost use Rattle.bank_slots_spec.specs.Store.{store};
 ghost use Rattle.bank_slots_spec.specs.Moves.{Moves, onCore};
-ghost use Rattle.bank_slots_spec.specs.Called.{Called, fit, long, stateAt, answerOf, number};
+ghost use Rattle.bank_slots_spec.specs.Called.{Called, fit, sized, stateAt, answerOf, number};
 ghost use Rattle.bank_slots_spec.specs.Outs.{motorSlots, outAfter, runGiven};
 ghost use Rattle.bank_slots_spec.specs.Parts.{demanded, queued};
 
@@ -51,8 +53,8 @@ const NO_REPLY: u16 = 7;
 
 // A new bank of a timing: the first lent buffer is current, the second spare.
 pub fn from_lanes(timing: &[u16], bank: &mut [u16]) -> u32
-    ensures { λ r. ⌜ r ≡ pick (fit (now (bank .entry)) (long 4 (now (timing .entry)))) 0 13 ⌝ }
-    ensures { λ r. ⌜ now (bank .exit) ≡ pick (fit (now (bank .entry)) (long 4 (now (timing .entry)))) (store (fromLanes 4 (timingAt (at (now (timing .entry)))))) (now (bank .entry)) ⌝ }
+    ensures { λ r. ⌜ r ≡ pick (fit (now (bank .entry)) (sized 4 (now (timing .entry)))) 0 13 ⌝ }
+    ensures { λ r. ⌜ now (bank .exit) ≡ pick (fit (now (bank .entry)) (sized 4 (now (timing .entry)))) (store (fromLanes 4 (timingAt (at (now (timing .entry)))))) (now (bank .entry)) ⌝ }
 {
     if bank.len() != SLOTS {
         return 13;
@@ -127,15 +129,15 @@ fn demand(bank: &mut [u16], commands: &[u16], now_ms: u64, lease_duration_ms: u3
     put_long(bank, LEASE_OVER, lease_duration_ms as u64 + 1);
 }
 
-// The throttles of the four motors, each up to 2000, and how long they are in force.
+// The throttles of the four motors, each up to 2000, and how sized they are in force.
 pub fn command_throttles(
     bank: &mut [u16],
     commands: &[u16],
     now_ms: u64,
     lease_duration_ms: u32,
 ) -> u32
-    ensures { λ r. ⌜ ((b : Buffers) → r ≡ number (answerOf (fit (now (bank .entry)) (long 4 (now (commands .entry)))) (stateAt (now (bank .entry)) b) (Call.command-throttles (now (commands .entry)) «now_ms» «lease_duration_ms»))) ⌝ }
-    ensures { λ r. ⌜ ((b : Buffers) → Called (fit (now (bank .entry)) (long 4 (now (commands .entry)))) (Call.command-throttles (now (commands .entry)) «now_ms» «lease_duration_ms») b (now (bank .entry)) (now (bank .exit)) r) ⌝ }
+    ensures { λ r. ⌜ ((b : Buffers) → r ≡ number (answerOf (fit (now (bank .entry)) (sized 4 (now (commands .entry)))) (stateAt (now (bank .entry)) b) (Call.command-throttles (now (commands .entry)) «now_ms» «lease_duration_ms»))) ⌝ }
+    ensures { λ r. ⌜ ((b : Buffers) → Called (fit (now (bank .entry)) (sized 4 (now (commands .entry)))) (Call.command-throttles (now (commands .entry)) «now_ms» «lease_duration_ms») b (now (bank .entry)) (now (bank .exit)) r) ⌝ }
 {
     if bank.len() != SLOTS {
         return 13;
@@ -186,8 +188,8 @@ fn queue(bank: &mut [u16], motor: usize, sequence: &[u16])
 //
 // Refused unless every motor is stopped with no command lease, so a command frame never replaces a throttle frame on a spinning motor.
 pub fn command_special(bank: &mut [u16], motor: usize, sequence: &[u16]) -> u32
-    ensures { λ r. ⌜ ((b : Buffers) → r ≡ number (answerOf (fit (now (bank .entry)) (long 4 (now (sequence .entry)))) (stateAt (now (bank .entry)) b) (Call.command-special motor (runGiven (now (sequence .entry)))))) ⌝ }
-    ensures { λ r. ⌜ ((b : Buffers) → Called (fit (now (bank .entry)) (long 4 (now (sequence .entry)))) (Call.command-special motor (runGiven (now (sequence .entry)))) b (now (bank .entry)) (now (bank .exit)) r) ⌝ }
+    ensures { λ r. ⌜ ((b : Buffers) → r ≡ number (answerOf (fit (now (bank .entry)) (sized 4 (now (sequence .entry)))) (stateAt (now (bank .entry)) b) (Call.command-special motor (runGiven (now (sequence .entry)))))) ⌝ }
+    ensures { λ r. ⌜ ((b : Buffers) → Called (fit (now (bank .entry)) (sized 4 (now (sequence .entry)))) (Call.command-special motor (runGiven (now (sequence .entry)))) b (now (bank .entry)) (now (bank .exit)) r) ⌝ }
 {
     if bank.len() != SLOTS {
         return 13;
@@ -262,8 +264,8 @@ fn put_choice(slot: u16, out: &mut [u16])
 
 // Takes the lane whose telemetry bit was included in the frame started by the most recent `service` call, in two slots.
 pub fn take_telemetry_request_sent(bank: &mut [u16], out: &mut [u16]) -> u32
-    ensures { λ r. ⌜ ((b : Buffers) → Called (fit (now (bank .entry)) (long 2 (now (out .entry)))) Call.take-telemetry-request-sent b (now (bank .entry)) (now (bank .exit)) r) ⌝ }
-    ensures { λ r. ⌜ ((b : Buffers) → now (out .exit) ≡ outAfter (answerOf (fit (now (bank .entry)) (long 2 (now (out .entry)))) (stateAt (now (bank .entry)) b) Call.take-telemetry-request-sent) (now (out .entry))) ⌝ }
+    ensures { λ r. ⌜ ((b : Buffers) → Called (fit (now (bank .entry)) (sized 2 (now (out .entry)))) Call.take-telemetry-request-sent b (now (bank .entry)) (now (bank .exit)) r) ⌝ }
+    ensures { λ r. ⌜ ((b : Buffers) → now (out .exit) ≡ outAfter (answerOf (fit (now (bank .entry)) (sized 2 (now (out .entry)))) (stateAt (now (bank .entry)) b) Call.take-telemetry-request-sent) (now (out .entry))) ⌝ }
 {
     if bank.len() != SLOTS {
         return 13;
@@ -271,7 +273,7 @@ pub fn take_telemetry_request_sent(bank: &mut [u16], out: &mut [u16]) -> u32
     if out.len() != 2 {
         return 13;
     }
-    put_choice(bank[SENT], out);
+    put_choice(bank[REQUEST_SENT], out);
     clear_sent(bank);
     0
 }

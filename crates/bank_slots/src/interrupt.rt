@@ -6,14 +6,14 @@
 
 use crate::BIDIRECTIONAL;
 use crate::BUSY;
-use crate::COMPLETION;
+use crate::COMPLETION_MASK;
 use crate::FAULTED;
 use crate::FRAMES_COMPLETED;
 use crate::INTERRUPT_SLOTS;
 use crate::LANE_COMPLETIONS;
 use crate::RECEIVING;
+use crate::REPLIES_WAITING;
 use crate::SLOTS;
-use crate::WAITING;
 use crate::memory::bump;
 use crate::memory::flag;
 use crate::memory::put_word;
@@ -39,10 +39,11 @@ ghost use Rattle.dshot_bank_spec.specs.Order.{begin-receive, end-receive};
 ghost use Rattle.dshot_bank_spec.specs.Interrupt as Spec;
 ghost use Rattle.dshot_bank_spec.specs.Interrupt.{completionBit, laneDone, frameDone, windowOpened, windowClosed, opensWindow, afterLane};
 ghost use Rattle.dshot_bank_spec.specs.Calls.{on-dma-interrupt};
-ghost use Rattle.bank_slots_spec.specs.Layout.{slots, load};
+ghost use Rattle.bank_slots_spec.specs.Places.{slots};
+ghost use Rattle.bank_slots_spec.specs.Load.{load};
 ghost use Rattle.bank_slots_spec.specs.Moves.{Moves, onCore};
 ghost use Rattle.bank_slots_spec.specs.Handles.{Handles};
-ghost use Rattle.bank_slots_spec.specs.Called.{Called, fit, long, stateAt, answerOf};
+ghost use Rattle.bank_slots_spec.specs.Called.{Called, fit, sized, stateAt, answerOf};
 ghost use Rattle.bank_slots_spec.specs.Outs.{interruptEvent, outAfter};
 
 const ALL_MOTORS_COMPLETE: u32 = 0b1111;
@@ -63,8 +64,8 @@ fn lane_done(state: &mut [u16], lane: usize)
     requires { ⌜ (length (now state) ≡ slots) × (lane < 4) ⌝ }
     ensures { λ r. ⌜ Moves (onCore (laneDone lane)) (now (state .entry)) (now (state .exit)) ⌝ }
 {
-    let mask = word_at(state, COMPLETION) | completion_bit(lane);
-    put_word(state, COMPLETION, mask);
+    let mask = word_at(state, COMPLETION_MASK) | completion_bit(lane);
+    put_word(state, COMPLETION_MASK, mask);
     let sent = state[RECEIVING] == 0;
     bump_if(state, sent, LANE_COMPLETIONS + 2 * lane);
 }
@@ -82,7 +83,7 @@ fn window_opened(state: &mut [u16])
     ensures { λ r. ⌜ Moves (onCore windowOpened) (now (state .entry)) (now (state .exit)) ⌝ }
 {
     state[RECEIVING] = 1;
-    put_word(state, COMPLETION, 0);
+    put_word(state, COMPLETION_MASK, 0);
 }
 
 fn window_closed(state: &mut [u16])
@@ -90,7 +91,7 @@ fn window_closed(state: &mut [u16])
     ensures { λ r. ⌜ Moves (onCore windowClosed) (now (state .entry)) (now (state .exit)) ⌝ }
 {
     state[RECEIVING] = 0;
-    state[WAITING] = 1;
+    state[REPLIES_WAITING] = 1;
     frame_done(state);
 }
 
@@ -197,7 +198,7 @@ fn after_lane(state: &mut [u16], lane: usize, turned: bool, turned_back: bool, o
     requires { ⌜ (length (now state) ≡ slots) × (length (now out) ≡ 9) × (lane < 4) ⌝ }
     ensures { λ r. ⌜ Handles (afterLane 4 lane true false turned «turned_back») (now (state .entry)) (now (state .exit)) (now (out .exit)) ⌝ }
 {
-    if word_at(state, COMPLETION) != ALL_MOTORS_COMPLETE {
+    if word_at(state, COMPLETION_MASK) != ALL_MOTORS_COMPLETE {
         tell_paused(out, COMPLETED, lane);
         return;
     }
@@ -243,7 +244,7 @@ fn handle(
         latched(state, lane, true, SPURIOUS_EVENT, out);
         return;
     }
-    if word_at(state, COMPLETION) & completion_bit(lane) != 0 {
+    if word_at(state, COMPLETION_MASK) & completion_bit(lane) != 0 {
         latched(state, lane, true, SPURIOUS_EVENT, out);
         return;
     }
@@ -270,8 +271,8 @@ pub fn on_dma_interrupt(
     turned_back: bool,
     out: &mut [u16],
 ) -> u32
-    ensures { λ r. ⌜ ((b : Buffers) → Called (fit (now (bank .entry)) (long 9 (now (out .entry)))) (on-dma-interrupt motor «transfer_complete» «dma_error» turned «turned_back») b (now (bank .entry)) (now (bank .exit)) r) ⌝ }
-    ensures { λ r. ⌜ ((b : Buffers) → now (out .exit) ≡ outAfter (answerOf (fit (now (bank .entry)) (long 9 (now (out .entry)))) (stateAt (now (bank .entry)) b) (on-dma-interrupt motor «transfer_complete» «dma_error» turned «turned_back»)) (now (out .entry))) ⌝ }
+    ensures { λ r. ⌜ ((b : Buffers) → Called (fit (now (bank .entry)) (sized 9 (now (out .entry)))) (on-dma-interrupt motor «transfer_complete» «dma_error» turned «turned_back») b (now (bank .entry)) (now (bank .exit)) r) ⌝ }
+    ensures { λ r. ⌜ ((b : Buffers) → now (out .exit) ≡ outAfter (answerOf (fit (now (bank .entry)) (sized 9 (now (out .entry)))) (stateAt (now (bank .entry)) b) (on-dma-interrupt motor «transfer_complete» «dma_error» turned «turned_back»)) (now (out .entry))) ⌝ }
 {
     if bank.len() != SLOTS {
         return 13;

@@ -45,7 +45,7 @@ pub const STATS_SLOTS: usize = 22;
 
 pub const REPLY_STATS_SLOTS: usize = 24;
 
-pub const TAKEN_SLOTS: usize = 17;
+pub const REPLIES_SLOTS: usize = 17;
 
 // Where each field lies: a number of 32 bits takes two slots from there, one of 64 bits four.
 pub(crate) const VALUES: usize = 4;
@@ -56,7 +56,7 @@ pub(crate) const LEASE_OVER: usize = 12;
 
 pub(crate) const REQUEST: usize = 16;
 
-pub(crate) const SENT: usize = 17;
+pub(crate) const REQUEST_SENT: usize = 17;
 
 // A motor or none, the two commands, the index and the repeats left.
 pub(crate) const RUN: usize = 18;
@@ -69,13 +69,13 @@ pub(crate) const BIDIRECTIONAL: usize = 25;
 
 pub(crate) const RECEIVING: usize = 26;
 
-pub(crate) const WAITING: usize = 27;
+pub(crate) const REPLIES_WAITING: usize = 27;
 
-pub(crate) const HELD: usize = 28;
+pub(crate) const REPLIES_HELD: usize = 28;
 
 pub(crate) const IN_SECOND: usize = 29;
 
-pub(crate) const COMPLETION: usize = 33;
+pub(crate) const COMPLETION_MASK: usize = 33;
 
 pub(crate) const STARTED: usize = 35;
 

@@ -11,17 +11,17 @@ use crate::FAULTED;
 use crate::FRAME_TIMEOUTS;
 use crate::FRAMES_COMPLETED;
 use crate::FRAMES_STARTED;
-use crate::HELD;
 use crate::IN_SECOND;
 use crate::LANE_COMPLETIONS;
 use crate::LEASE_EXPIRIES;
 use crate::REPLIES;
+use crate::REPLIES_HELD;
+use crate::REPLIES_SLOTS;
 use crate::REPLY_STATS_SLOTS;
 use crate::RUN;
 use crate::SLOTS;
 use crate::SPURIOUS;
 use crate::STATS_SLOTS;
-use crate::TAKEN_SLOTS;
 use crate::VALUES;
 use crate::memory::bit;
 use crate::memory::flag;
@@ -45,9 +45,11 @@ ghost use Rattle.dshot_reply.specs.Answers.{replyAnswer};
 ghost use Rattle.dshot_bank_spec.specs.State.{Buffers};
 ghost use Rattle.dshot_bank_spec.specs.Calls as Call;
 ghost use Rattle.bank_slots_spec.specs.Memory.{at, word, write, wordRows};
-ghost use Rattle.bank_slots_spec.specs.Layout.{slots, reply};
-ghost use Rattle.bank_slots_spec.specs.Layout as Layout;
-ghost use Rattle.bank_slots_spec.specs.Called.{Called, fit, long, stateAt, answerOf, number};
+ghost use Rattle.bank_slots_spec.specs.Places.{slots};
+ghost use Rattle.bank_slots_spec.specs.Load.{reply};
+ghost use Rattle.bank_slots_spec.specs.Load as Load;
+ghost use Rattle.bank_slots_spec.specs.Store as Store;
+ghost use Rattle.bank_slots_spec.specs.Called.{Called, fit, sized, stateAt, answerOf, number};
 ghost use Rattle.bank_slots_spec.specs.Outs.{replySlots, outAfter};
 ghost use Rattle.bank_slots_spec.specs.Parts.{slotRows};
 
@@ -56,8 +58,8 @@ ghost use Rattle.bank_slots_spec.specs.Parts.{slotRows};
 // The flag in a slot of the bank, told in one slot: 0 or 1.
 fn look_flag(bank: &[u16], k: usize, out: &mut [u16]) -> u32
     requires { ⌜ k < slots ⌝ }
-    ensures { λ r. ⌜ r ≡ pick (fit (now (bank .entry)) (long 1 (now (out .entry)))) 0 13 ⌝ }
-    ensures { λ r. ⌜ now (out .exit) ≡ pick (fit (now (bank .entry)) (long 1 (now (out .entry)))) (Layout.bit (Layout.flag (at (now (bank .entry)) k)) ∷ []) (now (out .entry)) ⌝ }
+    ensures { λ r. ⌜ r ≡ pick (fit (now (bank .entry)) (sized 1 (now (out .entry)))) 0 13 ⌝ }
+    ensures { λ r. ⌜ now (out .exit) ≡ pick (fit (now (bank .entry)) (sized 1 (now (out .entry)))) (Store.bit (Load.flag (at (now (bank .entry)) k)) ∷ []) (now (out .entry)) ⌝ }
 {
     if bank.len() != SLOTS {
         return 13;
@@ -70,30 +72,30 @@ fn look_flag(bank: &[u16], k: usize, out: &mut [u16]) -> u32
 }
 
 pub fn is_bidirectional(bank: &[u16], out: &mut [u16]) -> u32
-    ensures { λ r. ⌜ ((b : Buffers) → r ≡ number (answerOf (fit (now (bank .entry)) (long 1 (now (out .entry)))) (stateAt (now (bank .entry)) b) Call.is-bidirectional)) ⌝ }
-    ensures { λ r. ⌜ ((b : Buffers) → now (out .exit) ≡ outAfter (answerOf (fit (now (bank .entry)) (long 1 (now (out .entry)))) (stateAt (now (bank .entry)) b) Call.is-bidirectional) (now (out .entry))) ⌝ }
+    ensures { λ r. ⌜ ((b : Buffers) → r ≡ number (answerOf (fit (now (bank .entry)) (sized 1 (now (out .entry)))) (stateAt (now (bank .entry)) b) Call.is-bidirectional)) ⌝ }
+    ensures { λ r. ⌜ ((b : Buffers) → now (out .exit) ≡ outAfter (answerOf (fit (now (bank .entry)) (sized 1 (now (out .entry)))) (stateAt (now (bank .entry)) b) Call.is-bidirectional) (now (out .entry))) ⌝ }
 {
     look_flag(bank, BIDIRECTIONAL, out)
 }
 
 pub fn is_faulted(bank: &[u16], out: &mut [u16]) -> u32
-    ensures { λ r. ⌜ ((b : Buffers) → r ≡ number (answerOf (fit (now (bank .entry)) (long 1 (now (out .entry)))) (stateAt (now (bank .entry)) b) Call.is-faulted)) ⌝ }
-    ensures { λ r. ⌜ ((b : Buffers) → now (out .exit) ≡ outAfter (answerOf (fit (now (bank .entry)) (long 1 (now (out .entry)))) (stateAt (now (bank .entry)) b) Call.is-faulted) (now (out .entry))) ⌝ }
+    ensures { λ r. ⌜ ((b : Buffers) → r ≡ number (answerOf (fit (now (bank .entry)) (sized 1 (now (out .entry)))) (stateAt (now (bank .entry)) b) Call.is-faulted)) ⌝ }
+    ensures { λ r. ⌜ ((b : Buffers) → now (out .exit) ≡ outAfter (answerOf (fit (now (bank .entry)) (sized 1 (now (out .entry)))) (stateAt (now (bank .entry)) b) Call.is-faulted) (now (out .entry))) ⌝ }
 {
     look_flag(bank, FAULTED, out)
 }
 
 // Whether a special-command run is still being sent.
 pub fn command_pending(bank: &[u16], out: &mut [u16]) -> u32
-    ensures { λ r. ⌜ ((b : Buffers) → r ≡ number (answerOf (fit (now (bank .entry)) (long 1 (now (out .entry)))) (stateAt (now (bank .entry)) b) Call.command-pending)) ⌝ }
-    ensures { λ r. ⌜ ((b : Buffers) → now (out .exit) ≡ outAfter (answerOf (fit (now (bank .entry)) (long 1 (now (out .entry)))) (stateAt (now (bank .entry)) b) Call.command-pending) (now (out .entry))) ⌝ }
+    ensures { λ r. ⌜ ((b : Buffers) → r ≡ number (answerOf (fit (now (bank .entry)) (sized 1 (now (out .entry)))) (stateAt (now (bank .entry)) b) Call.command-pending)) ⌝ }
+    ensures { λ r. ⌜ ((b : Buffers) → now (out .exit) ≡ outAfter (answerOf (fit (now (bank .entry)) (sized 1 (now (out .entry)))) (stateAt (now (bank .entry)) b) Call.command-pending) (now (out .entry))) ⌝ }
 {
     look_flag(bank, RUN, out)
 }
 
 pub fn requested_values(bank: &[u16], out: &mut [u16]) -> u32
-    ensures { λ r. ⌜ ((b : Buffers) → r ≡ number (answerOf (fit (now (bank .entry)) (long 4 (now (out .entry)))) (stateAt (now (bank .entry)) b) Call.requested-values)) ⌝ }
-    ensures { λ r. ⌜ ((b : Buffers) → now (out .exit) ≡ outAfter (answerOf (fit (now (bank .entry)) (long 4 (now (out .entry)))) (stateAt (now (bank .entry)) b) Call.requested-values) (now (out .entry))) ⌝ }
+    ensures { λ r. ⌜ ((b : Buffers) → r ≡ number (answerOf (fit (now (bank .entry)) (sized 4 (now (out .entry)))) (stateAt (now (bank .entry)) b) Call.requested-values)) ⌝ }
+    ensures { λ r. ⌜ ((b : Buffers) → now (out .exit) ≡ outAfter (answerOf (fit (now (bank .entry)) (sized 4 (now (out .entry)))) (stateAt (now (bank .entry)) b) Call.requested-values) (now (out .entry))) ⌝ }
 {
     if bank.len() != SLOTS {
         return 13;
@@ -119,8 +121,8 @@ fn copy_word(bank: &[u16], from: usize, out: &mut [u16], to: usize)
 
 // The counts, in the order of DshotStats.
 pub fn stats(bank: &[u16], out: &mut [u16]) -> u32
-    ensures { λ r. ⌜ ((b : Buffers) → r ≡ number (answerOf (fit (now (bank .entry)) (long 22 (now (out .entry)))) (stateAt (now (bank .entry)) b) Call.stats)) ⌝ }
-    ensures { λ r. ⌜ ((b : Buffers) → now (out .exit) ≡ outAfter (answerOf (fit (now (bank .entry)) (long 22 (now (out .entry)))) (stateAt (now (bank .entry)) b) Call.stats) (now (out .entry))) ⌝ }
+    ensures { λ r. ⌜ ((b : Buffers) → r ≡ number (answerOf (fit (now (bank .entry)) (sized 22 (now (out .entry)))) (stateAt (now (bank .entry)) b) Call.stats)) ⌝ }
+    ensures { λ r. ⌜ ((b : Buffers) → now (out .exit) ≡ outAfter (answerOf (fit (now (bank .entry)) (sized 22 (now (out .entry)))) (stateAt (now (bank .entry)) b) Call.stats) (now (out .entry))) ⌝ }
 {
     if bank.len() != SLOTS {
         return 13;
@@ -144,8 +146,8 @@ pub fn stats(bank: &[u16], out: &mut [u16]) -> u32
 
 // Each count of the four lanes, in the order of DshotReplyStats.
 pub fn reply_stats(bank: &[u16], out: &mut [u16]) -> u32
-    ensures { λ r. ⌜ ((b : Buffers) → r ≡ number (answerOf (fit (now (bank .entry)) (long 24 (now (out .entry)))) (stateAt (now (bank .entry)) b) Call.reply-stats)) ⌝ }
-    ensures { λ r. ⌜ ((b : Buffers) → now (out .exit) ≡ outAfter (answerOf (fit (now (bank .entry)) (long 24 (now (out .entry)))) (stateAt (now (bank .entry)) b) Call.reply-stats) (now (out .entry))) ⌝ }
+    ensures { λ r. ⌜ ((b : Buffers) → r ≡ number (answerOf (fit (now (bank .entry)) (sized 24 (now (out .entry)))) (stateAt (now (bank .entry)) b) Call.reply-stats)) ⌝ }
+    ensures { λ r. ⌜ ((b : Buffers) → now (out .exit) ≡ outAfter (answerOf (fit (now (bank .entry)) (sized 24 (now (out .entry)))) (stateAt (now (bank .entry)) b) Call.reply-stats) (now (out .entry))) ⌝ }
 {
     if bank.len() != SLOTS {
         return 13;
@@ -225,16 +227,16 @@ fn put_lane(bank: &[u16], from: usize, out: &mut [u16], to: usize)
 
 // The replies decoded since the last call, once: 1 and four slots a lane, or zeros where there are none.
 pub fn take_replies(bank: &mut [u16], out: &mut [u16]) -> u32
-    ensures { λ r. ⌜ ((b : Buffers) → Called (fit (now (bank .entry)) (long 17 (now (out .entry)))) Call.take-replies b (now (bank .entry)) (now (bank .exit)) r) ⌝ }
-    ensures { λ r. ⌜ ((b : Buffers) → now (out .exit) ≡ outAfter (answerOf (fit (now (bank .entry)) (long 17 (now (out .entry)))) (stateAt (now (bank .entry)) b) Call.take-replies) (now (out .entry))) ⌝ }
+    ensures { λ r. ⌜ ((b : Buffers) → Called (fit (now (bank .entry)) (sized 17 (now (out .entry)))) Call.take-replies b (now (bank .entry)) (now (bank .exit)) r) ⌝ }
+    ensures { λ r. ⌜ ((b : Buffers) → now (out .exit) ≡ outAfter (answerOf (fit (now (bank .entry)) (sized 17 (now (out .entry)))) (stateAt (now (bank .entry)) b) Call.take-replies) (now (out .entry))) ⌝ }
 {
     if bank.len() != SLOTS {
         return 13;
     }
-    if out.len() != TAKEN_SLOTS {
+    if out.len() != REPLIES_SLOTS {
         return 13;
     }
-    if !flag(bank[HELD]) {
+    if !flag(bank[REPLIES_HELD]) {
         zero(out);
         return 0;
     }
@@ -243,7 +245,7 @@ pub fn take_replies(bank: &mut [u16], out: &mut [u16]) -> u32
     put_lane(bank, REPLIES + 9, out, 5);
     put_lane(bank, REPLIES + 18, out, 9);
     put_lane(bank, REPLIES + 27, out, 13);
-    bank[HELD] = 0;
+    bank[REPLIES_HELD] = 0;
     0
 }
 
@@ -260,8 +262,8 @@ fn copy(part: &[u16], out: &mut [u16])
 
 // The 16 slots of the sequence that a lane is sending, out of the buffer that its mark names.
 pub fn sending(bank: &[u16], first: &[u16], second: &[u16], motor: usize, out: &mut [u16]) -> u32
-    ensures { λ r. ⌜ r ≡ number (answerOf (fit (now (bank .entry)) (long 16 (now (out .entry)))) (stateAt (now (bank .entry)) (record { first = now (first .entry); second = now (second .entry) })) (Call.sending motor)) ⌝ }
-    ensures { λ r. ⌜ now (out .exit) ≡ outAfter (answerOf (fit (now (bank .entry)) (long 16 (now (out .entry)))) (stateAt (now (bank .entry)) (record { first = now (first .entry); second = now (second .entry) })) (Call.sending motor)) (now (out .entry)) ⌝ }
+    ensures { λ r. ⌜ r ≡ number (answerOf (fit (now (bank .entry)) (sized 16 (now (out .entry)))) (stateAt (now (bank .entry)) (record { first = now (first .entry); second = now (second .entry) })) (Call.sending motor)) ⌝ }
+    ensures { λ r. ⌜ now (out .exit) ≡ outAfter (answerOf (fit (now (bank .entry)) (sized 16 (now (out .entry)))) (stateAt (now (bank .entry)) (record { first = now (first .entry); second = now (second .entry) })) (Call.sending motor)) (now (out .entry)) ⌝ }
 {
     if bank.len() != SLOTS {
         return 13;

@@ -5,12 +5,12 @@ ghost use Prim.Native.Nat.{_+_, _*_, _<_};
 ghost use lib.ListN.{length, replicate};
 ghost use Rattle.dshot_bank_spec.specs.Replies.{wrappingAdd};
 ghost use Rattle.bank_slots_spec.specs.Memory.{at, word, long, write, wordRows, longRows};
-ghost use Rattle.bank_slots_spec.specs.Layout.{bit};
-ghost use Rattle.bank_slots_spec.specs.Layout as Layout;
+ghost use Rattle.bank_slots_spec.specs.Store.{bit};
+ghost use Rattle.bank_slots_spec.specs.Load as Load;
 
 // The flag in a slot: 0 is no, any other number yes.
 pub(crate) fn flag(slot: u16) -> bool
-    ensures { λ r. ⌜ r ≡ Layout.flag slot ⌝ }
+    ensures { λ r. ⌜ r ≡ Load.flag slot ⌝ }
 {
     slot != 0
 }

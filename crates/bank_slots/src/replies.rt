@@ -4,9 +4,9 @@
 //
 // The replies of the last receive window, and their counts. A lane takes nine slots: the reply's kind and number, and three counts.
 
-use crate::HELD;
 use crate::REPLIES;
-use crate::WAITING;
+use crate::REPLIES_HELD;
+use crate::REPLIES_WAITING;
 use crate::memory::flag;
 use crate::memory::put_word;
 use crate::memory::word_at;
@@ -23,11 +23,13 @@ ghost use Rattle.dshot_bank_spec.specs.State.{Bank};
 ghost use Rattle.dshot_bank_spec.specs.Replies.{window, readWindow, countReply, decodeReplies};
 ghost use Rattle.dshot_bank.specs.States.{storedAnswer, laneReplyOf};
 ghost use Rattle.bank_slots_spec.specs.Memory.{at, write};
-ghost use Rattle.bank_slots_spec.specs.Layout.{slots, replyKind, replyNumber, laneRows};
-ghost use Rattle.bank_slots_spec.specs.Layout as Layout;
+ghost use Rattle.bank_slots_spec.specs.Places.{slots};
+ghost use Rattle.bank_slots_spec.specs.Store.{replyKind, replyNumber, laneRows};
+ghost use Rattle.bank_slots_spec.specs.Load as Load;
 ghost use Rattle.bank_slots_spec.specs.Moves.{Moves};
 ghost use Rattle.bank_slots_spec.specs.Outs.{present, masks};
-ghost use Rattle.bank_slots_spec.specs.Parts.{laneFrom, withReplies, windowsRead};
+ghost use Rattle.bank_slots_spec.specs.Load.{laneFrom};
+ghost use Rattle.bank_slots_spec.specs.Parts.{withReplies, windowsRead};
 
 // The kind of a stored reply: 0 to 6 are readings, and a refusal has its number.
 fn stored_kind(reply: StoredReply) -> u16
@@ -100,7 +102,7 @@ fn count_reply(state: &mut [u16], k: usize, reply: ReplyRead)
 // read as eRPM.
 fn decode_lane(state: &mut [u16], k: usize, lane: usize, lanes: &[u16], captures: &[u16])
     requires { ⌜ (k + 8 < length (now state)) × (lane < 4) × (length (now lanes) ≡ 12) × (length (now captures) ≡ 160 * 4) ⌝ }
-    ensures { λ r. ⌜ now (state .exit) ≡ write (laneRows k (countReply (readWindow (Layout.flag (getD (now (lanes .entry)) (4 + lane) 0)) (window (now (captures .entry)) lane) (getD (now (lanes .entry)) (8 + lane) 0)) (laneFrom k (at (now (state .entry)))))) (now (state .entry)) ⌝ }
+    ensures { λ r. ⌜ now (state .exit) ≡ write (laneRows k (countReply (readWindow (Load.flag (getD (now (lanes .entry)) (4 + lane) 0)) (window (now (captures .entry)) lane) (getD (now (lanes .entry)) (8 + lane) 0)) (laneFrom k (at (now (state .entry)))))) (now (state .entry)) ⌝ }
 {
     if !flag(lanes[4 + lane]) {
         count_reply(state, k, ReplyRead::Refused(DshotReplyError::NoReply));
@@ -127,10 +129,10 @@ pub(crate) fn read_replies(state: &mut [u16], lanes: &[u16], captures: &[u16])
     requires { ⌜ (length (now state) ≡ slots) × (length (now lanes) ≡ 12) × (length (now captures) ≡ 160 * 4) ⌝ }
     ensures { λ r. ⌜ Moves (windowsRead (present (now (lanes .entry))) (masks (now (lanes .entry))) (now (captures .entry))) (now (state .entry)) (now (state .exit)) ⌝ }
 {
-    if !flag(state[WAITING]) {
+    if !flag(state[REPLIES_WAITING]) {
         return;
     }
     decode_replies(state, lanes, captures);
-    state[WAITING] = 0;
-    state[HELD] = 1;
+    state[REPLIES_WAITING] = 0;
+    state[REPLIES_HELD] = 1;
 }

@@ -6,12 +6,12 @@
 
 use crate::BIDIRECTIONAL;
 use crate::BUSY;
-use crate::COMPLETION;
+use crate::COMPLETION_MASK;
 use crate::FRAMES_STARTED;
 use crate::IN_SECOND;
 use crate::REQUEST;
+use crate::REQUEST_SENT;
 use crate::RUN;
-use crate::SENT;
 use crate::STARTED;
 use crate::VALUES;
 use crate::commands::any_above;
@@ -56,8 +56,11 @@ ghost use Rattle.dshot_bank_spec.specs.With.{withCommandSequence};
 ghost use Rattle.dshot_bank_spec.specs.Send.{kindSent, asLane, exchangeRefused, frameStarted};
 ghost use Rattle.dshot_bank_spec.specs.Service as Spec;
 ghost use Rattle.bank_slots_spec.specs.Memory.{_holds_, at, write};
-ghost use Rattle.bank_slots_spec.specs.Layout.{slots, load};
-ghost use Rattle.bank_slots_spec.specs.Layout as Layout;
+ghost use Rattle.bank_slots_spec.specs.Places.{slots};
+ghost use Rattle.bank_slots_spec.specs.Load.{load};
+ghost use Rattle.bank_slots_spec.specs.Places as Places;
+ghost use Rattle.bank_slots_spec.specs.Load as Load;
+ghost use Rattle.bank_slots_spec.specs.Store as Store;
 ghost use Rattle.bank_slots_spec.specs.Moves.{Moves, onCore};
 ghost use Rattle.bank_slots_spec.specs.Handles.{Serves};
 ghost use Rattle.bank_slots_spec.specs.Outs.{codes, taken};
@@ -65,7 +68,7 @@ ghost use Rattle.bank_slots_spec.specs.Parts.{runStepped, marksTurned, carriedB
 ghost use Rattle.bank_slots.specs.Frames.{motorCommandOf, OnLane, Sets};
 
 // The next special-command frame.
-pub(crate) enum NextFrame {
+pub(crate) enum FrameCommand {
     None,
     Command(usize, u16),
 }
@@ -80,8 +83,8 @@ pub(crate) struct FrameSet {
 // ---- the run of commands
 
 // The next command of a run, which is stepped; a spent run is cleared.
-fn step_run(state: &mut [u16]) -> NextFrame
-    requires { ⌜ (length (now state) ≡ slots) × (at (now state) Layout.RUN ≡ 0 → ⊥) ⌝ }
+fn step_run(state: &mut [u16]) -> FrameCommand
+    requires { ⌜ (length (now state) ≡ slots) × (at (now state) Places.RUN ≡ 0 → ⊥) ⌝ }
     ensures { λ r. ⌜ OnLane r ⌝ }
     ensures { λ r. ⌜ motorCommandOf r ≡ nextOfRun (load (now (state .entry)) .core .commandSequence) .command ⌝ }
     ensures { λ r. ⌜ Moves (onCore (λ (c : Core). withCommandSequence (nextOfRun (c .commandSequence) .left) c)) (now (state .entry)) (now (state .exit)) ⌝ }
@@ -98,17 +101,17 @@ fn step_run(state: &mut [u16]) -> NextFrame
     match value {
         CommandValue::Value(command) => {
             put_run(state, motor, left);
-            NextFrame::Command(motor, command)
+            FrameCommand::Command(motor, command)
         }
         CommandValue::None => {
             clear_run(state);
-            NextFrame::None
+            FrameCommand::None
         }
     }
 }
 
 // The next special-command frame; none when there is none or a throttle demand has cancelled it.
-fn next_command_frame(state: &mut [u16]) -> NextFrame
+fn next_command_frame(state: &mut [u16]) -> FrameCommand
     requires { ⌜ length (now state) ≡ slots ⌝ }
     ensures { λ r. ⌜ OnLane r ⌝ }
     ensures { λ r. ⌜ motorCommandOf r ≡ nextCommandFrame (load (now (state .entry)) .core) .command ⌝ }
@@ -116,10 +119,10 @@ fn next_command_frame(state: &mut [u16]) -> NextFrame
 {
     if any_above(&state[VALUES..VALUES + LANES], 0) {
         clear_run(state);
-        return NextFrame::None;
+        return FrameCommand::None;
     }
     if state[RUN] == 0 {
-        return NextFrame::None;
+        return FrameCommand::None;
     }
     step_run(state)
 }
@@ -152,7 +155,7 @@ fn one_lane(motor: usize, command: u16) -> MotorValues
 }
 
 fn request_lane(slot: u16) -> TelemetryLane
-    ensures { λ r. ⌜ laneOf r ≡ asLane (Layout.choice slot) ⌝ }
+    ensures { λ r. ⌜ laneOf r ≡ asLane (Load.choice slot) ⌝ }
 {
     if slot == 0 {
         return TelemetryLane::None;
@@ -161,17 +164,17 @@ fn request_lane(slot: u16) -> TelemetryLane
 }
 
 // A special command needs the telemetry bit on its own lane, so a pending telemetry request waits for the next ordinary frame.
-fn frame_set(state: &[u16], command: NextFrame) -> FrameSet
+fn frame_set(state: &[u16], command: FrameCommand) -> FrameSet
     requires { ⌜ (length (now state) ≡ slots) × OnLane command ⌝ }
     ensures { λ r. ⌜ Sets r (load (now (state .entry)) .core) (motorCommandOf command) ⌝ }
 {
     match command {
-        NextFrame::Command(motor, value) => FrameSet {
+        FrameCommand::Command(motor, value) => FrameSet {
             values: one_lane(motor, value),
             telemetry_lane: TelemetryLane::Lane(motor),
             ordinary: false,
         },
-        NextFrame::None => FrameSet {
+        FrameCommand::None => FrameSet {
             values: values_at(state),
             telemetry_lane: request_lane(state[REQUEST]),
             ordinary: true,
@@ -238,7 +241,7 @@ fn lanes_taken(lanes: &[u16]) -> usize
 
 fn turn_mark(state: &mut [u16], k: usize, turned: bool)
     requires { ⌜ k < length (now state) ⌝ }
-    ensures { λ r. ⌜ now (state .exit) ≡ pick turned (write ((k holds Layout.bit (not (Layout.flag (at (now (state .entry)) k)))) ∷ []) (now (state .entry))) (now (state .entry)) ⌝ }
+    ensures { λ r. ⌜ now (state .exit) ≡ pick turned (write ((k holds Store.bit (not (Load.flag (at (now (state .entry)) k)))) ∷ []) (now (state .entry))) (now (state .entry)) ⌝ }
 {
     if turned {
         let mark = flag(state[k]);
@@ -280,12 +283,12 @@ fn refused_orders(lane: usize) -> [u16; 9]
 }
 
 // A frame set in flight, but for what it carries.
-fn fly(state: &mut [u16], now_ms: u64)
+fn mark_in_flight(state: &mut [u16], now_ms: u64)
     requires { ⌜ length (now state) ≡ slots ⌝ }
     ensures { λ r. ⌜ Moves (onCore (inFlight «now_ms»)) (now (state .entry)) (now (state .exit)) ⌝ }
 {
     put_long(state, STARTED, now_ms);
-    put_word(state, COMPLETION, 0);
+    put_word(state, COMPLETION_MASK, 0);
     state[BUSY] = 1;
     bump(state, FRAMES_STARTED);
 }
@@ -303,7 +306,7 @@ fn carry(state: &mut [u16], ordinary: bool)
         return;
     }
     state[REQUEST] = 0;
-    state[SENT] = request;
+    state[REQUEST_SENT] = request;
 }
 
 fn frame_started(state: &mut [u16], now_ms: u64, ordinary: bool)
@@ -311,7 +314,7 @@ fn frame_started(state: &mut [u16], now_ms: u64, ordinary: bool)
     ensures { λ r. ⌜ Moves (onCore (λ (c : Core). frameStarted 4 «now_ms» (carriedBy ordinary c) c)) (now (state .entry)) (now (state .exit)) ⌝ }
 {
     turn_marks(state, LANES);
-    fly(state, now_ms);
+    mark_in_flight(state, now_ms);
     carry(state, ordinary);
 }
 

@@ -43,10 +43,11 @@ ghost use Rattle.dshot_bank_spec.specs.Send.{latchFault};
 ghost use Rattle.dshot_bank_spec.specs.Service as Spec;
 ghost use Rattle.dshot_bank_spec.specs.Service.{demandExpired, expireLease, serviceBusy};
 ghost use Rattle.dshot_bank_spec.specs.Calls.{service-call};
-ghost use Rattle.bank_slots_spec.specs.Layout.{slots, load};
+ghost use Rattle.bank_slots_spec.specs.Places.{slots};
+ghost use Rattle.bank_slots_spec.specs.Load.{load};
 ghost use Rattle.bank_slots_spec.specs.Moves.{Moves, onCore};
 ghost use Rattle.bank_slots_spec.specs.Handles.{Skips, Serves};
-ghost use Rattle.bank_slots_spec.specs.Called.{Called, fit, long, stateAt, answerOf, buffersAfter};
+ghost use Rattle.bank_slots_spec.specs.Called.{Called, fit, sized, stateAt, answerOf, buffersAfter};
 ghost use Rattle.bank_slots_spec.specs.Outs.{taken, present, masks, outAfter};
 
 fn expired(state: &[u16], now_ms: u64) -> bool
@@ -150,9 +151,9 @@ pub fn service(
     captures: &[u16],
     out: &mut [u16],
 ) -> u32
-    ensures { λ r. ⌜ Called (fit (now (bank .entry)) (if long 12 (now (lanes .entry)) then long 15 (now (out .entry)) else false)) (service-call «now_ms» (taken (now (lanes .entry))) (present (now (lanes .entry))) (masks (now (lanes .entry))) (now (captures .entry))) (record { first = now (first .entry); second = now (second .entry) }) (now (bank .entry)) (now (bank .exit)) r ⌝ }
-    ensures { λ r. ⌜ _≡_ {A = Buffers} (record { first = now (first .exit); second = now (second .exit) }) (buffersAfter (fit (now (bank .entry)) (if long 12 (now (lanes .entry)) then long 15 (now (out .entry)) else false)) (stateAt (now (bank .entry)) (record { first = now (first .entry); second = now (second .entry) })) (service-call «now_ms» (taken (now (lanes .entry))) (present (now (lanes .entry))) (masks (now (lanes .entry))) (now (captures .entry)))) ⌝ }
-    ensures { λ r. ⌜ now (out .exit) ≡ outAfter (answerOf (fit (now (bank .entry)) (if long 12 (now (lanes .entry)) then long 15 (now (out .entry)) else false)) (stateAt (now (bank .entry)) (record { first = now (first .entry); second = now (second .entry) })) (service-call «now_ms» (taken (now (lanes .entry))) (present (now (lanes .entry))) (masks (now (lanes .entry))) (now (captures .entry)))) (now (out .entry)) ⌝ }
+    ensures { λ r. ⌜ Called (fit (now (bank .entry)) (if sized 12 (now (lanes .entry)) then sized 15 (now (out .entry)) else false)) (service-call «now_ms» (taken (now (lanes .entry))) (present (now (lanes .entry))) (masks (now (lanes .entry))) (now (captures .entry))) (record { first = now (first .entry); second = now (second .entry) }) (now (bank .entry)) (now (bank .exit)) r ⌝ }
+    ensures { λ r. ⌜ _≡_ {A = Buffers} (record { first = now (first .exit); second = now (second .exit) }) (buffersAfter (fit (now (bank .entry)) (if sized 12 (now (lanes .entry)) then sized 15 (now (out .entry)) else false)) (stateAt (now (bank .entry)) (record { first = now (first .entry); second = now (second .entry) })) (service-call «now_ms» (taken (now (lanes .entry))) (present (now (lanes .entry))) (masks (now (lanes .entry))) (now (captures .entry)))) ⌝ }
+    ensures { λ r. ⌜ now (out .exit) ≡ outAfter (answerOf (fit (now (bank .entry)) (if sized 12 (now (lanes .entry)) then sized 15 (now (out .entry)) else false)) (stateAt (now (bank .entry)) (record { first = now (first .entry); second = now (second .entry) })) (service-call «now_ms» (taken (now (lanes .entry))) (present (now (lanes .entry))) (masks (now (lanes .entry))) (now (captures .entry)))) (now (out .entry)) ⌝ }
 {
     if bank.len() != SLOTS {
         return 13;

@@ -8,12 +8,12 @@ use crate::DMA_FAULTS;
 use crate::FAULTED;
 use crate::LEASE_OVER;
 use crate::RECEIVING;
+use crate::REPLIES_WAITING;
 use crate::REQUEST;
+use crate::REQUEST_SENT;
 use crate::RUN;
-use crate::SENT;
 use crate::SPURIOUS;
 use crate::VALUES;
-use crate::WAITING;
 use crate::memory::bump;
 use dshot::DshotCommandSequence;
 ghost use mathlib.Core.Path.{_≡_};
@@ -25,7 +25,7 @@ ghost use Rattle.dshot.specs.Answers.{runOf};
 ghost use Rattle.dshot_bank_spec.specs.Commands.{commandStop, clearRequestSent, cancelTelemetryRequest};
 ghost use Rattle.dshot_bank_spec.specs.With.{withCommandSequence};
 ghost use Rattle.dshot_bank_spec.specs.Send.{latchFault};
-ghost use Rattle.bank_slots_spec.specs.Layout.{slots};
+ghost use Rattle.bank_slots_spec.specs.Places.{slots};
 ghost use Rattle.bank_slots_spec.specs.Moves.{Moves, onCore};
 ghost use Rattle.bank_slots_spec.specs.Parts.{bumped, faultCounted, flagsLatched, requestsCleared, queued};
 
@@ -33,7 +33,7 @@ pub(crate) fn clear_sent(state: &mut [u16])
     requires { ⌜ length (now state) ≡ slots ⌝ }
     ensures { λ r. ⌜ Moves (onCore clearRequestSent) (now (state .entry)) (now (state .exit)) ⌝ }
 {
-    state[SENT] = 0;
+    state[REQUEST_SENT] = 0;
 }
 
 pub(crate) fn clear_request(state: &mut [u16])
@@ -107,7 +107,7 @@ fn latch_flags(state: &mut [u16])
     state[FAULTED] = 1;
     state[BUSY] = 0;
     state[RECEIVING] = 0;
-    state[WAITING] = 0;
+    state[REPLIES_WAITING] = 0;
 }
 
 fn clear_requests(state: &mut [u16])

@@ -14,21 +14,21 @@ use Rattle.dshot_bank_spec.specs.Calls.{Call, Answer, refused, State, step}
 use Rattle.dshot_bank_spec.specs.Lists.{isRefused}
 use Rattle.dshot_bank_spec.proofs.LaneLaws.{on, off}
 use Rattle.dshot_bank_spec.proofs.Refusals.{refusals-keep}
-use Rattle.bank_slots_spec.specs.Layout.{load}
-use Rattle.bank_slots_spec.specs.Layout as Layout
+use Rattle.bank_slots_spec.specs.Load.{load}
+use Rattle.bank_slots_spec.specs.Places as Places
 use Rattle.bank_slots_spec.specs.Moves.{Moves}
-use Rattle.bank_slots_spec.specs.Called.{Called, fit, long, number, stateAt, answerOf, bankAfter, buffersAfter}
+use Rattle.bank_slots_spec.specs.Called.{Called, fit, sized, number, stateAt, answerOf, bankAfter, buffersAfter}
 use Rattle.bank_slots_spec.specs.Outs.{slotsOf, outAfter}
 
 -- ---- lengths
 
-pub state-short : (xs : List ℕ) (others : Bool) → (length xs ≡ Layout.slots → ⊥) → fit xs others ≡ false
+pub state-short : (xs : List ℕ) (others : Bool) → (length xs ≡ Places.slots → ⊥) → fit xs others ≡ false
 state-short xs others h = sym (off _ _ (ne-eqb _ _ h) refl)
 
-pub state-fits : (xs : List ℕ) (others : Bool) → length xs ≡ Layout.slots → fit xs others ≡ others
+pub state-fits : (xs : List ℕ) (others : Bool) → length xs ≡ Places.slots → fit xs others ≡ others
 state-fits xs others h = sym (on _ _ (eq-eqb _ _ h) refl)
 
-pub other-short : (xs : List ℕ) (others : Bool) → length xs ≡ Layout.slots → others ≡ false → fit xs others ≡ false
+pub other-short : (xs : List ℕ) (others : Bool) → length xs ≡ Places.slots → others ≡ false → fit xs others ≡ false
 other-short xs others h e = state-fits xs others h ∙ e
 
 -- ---- answers

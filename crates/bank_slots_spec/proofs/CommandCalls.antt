@@ -16,9 +16,11 @@ use Rattle.dshot_bank_spec.specs.Commands.{fromLanes, enableBidirectional, isRu
 use Rattle.dshot_bank_spec.specs.Calls.{Call, enable-bidirectional, command-stop, command-throttles, command-special, request-telemetry, cancel-telemetry-request, take-telemetry-request-sent, refused, motor-sent, State, Stepped, told, commanded, act, laneRefusal, portRefusal, refuseOr, step}
 use Rattle.dshot_bank_spec.proofs.LaneLaws.{on, off}
 use Rattle.bank_slots_spec.specs.Memory.{_holds_, at, write}
-use Rattle.bank_slots_spec.specs.Layout.{slots, REQUEST, SENT, RUN, FAULTED, BIDIRECTIONAL, flag, choice, timingAt, load, store}
+use Rattle.bank_slots_spec.specs.Places.{slots, REQUEST, REQUEST-SENT, RUN, FAULTED, BIDIRECTIONAL}
+use Rattle.bank_slots_spec.specs.Load.{flag, choice, timingAt, load}
+use Rattle.bank_slots_spec.specs.Store.{store}
 use Rattle.bank_slots_spec.specs.Moves.{Moves, onCore}
-use Rattle.bank_slots_spec.specs.Called.{Called, fit, long, number, stateAt, answerOf}
+use Rattle.bank_slots_spec.specs.Called.{Called, fit, sized, number, stateAt, answerOf}
 use Rattle.bank_slots_spec.specs.Outs.{motorSlots, outAfter, runGiven}
 use Rattle.bank_slots_spec.specs.Parts.{demanded, queued}
 use Rattle.bank_slots_spec.proofs.MoveLaws.{moves-as}
@@ -28,20 +30,20 @@ use Rattle.bank_slots_spec.proofs.CommandMoves.{newRows, new-bank, bidi
 -- ---- lengths
 
 -- another slice of another length
-pub other-long : (xs ys : List ℕ) (k : ℕ) → length xs ≡ slots → (length ys ≡ k → ⊥) → fit xs (long k ys) ≡ false
-other-long xs ys k n h = other-short xs (long k ys) n (ne-eqb _ _ h)
+pub other-long : (xs ys : List ℕ) (k : ℕ) → length xs ≡ slots → (length ys ≡ k → ⊥) → fit xs (sized k ys) ≡ false
+other-long xs ys k n h = other-short xs (sized k ys) n (ne-eqb _ _ h)
 
-pub both-fit : (xs ys : List ℕ) (k : ℕ) → length xs ≡ slots → length ys ≡ k → fit xs (long k ys) ≡ true
-both-fit xs ys k n h = state-fits xs (long k ys) n ∙ eq-eqb _ _ h
+pub both-fit : (xs ys : List ℕ) (k : ℕ) → length xs ≡ slots → length ys ≡ k → fit xs (sized k ys) ≡ true
+both-fit xs ys k n h = state-fits xs (sized k ys) n ∙ eq-eqb _ _ h
 
 -- ---- a new bank
 
 module _ (xs t : List ℕ) where
   -- what is answered, and the slots after it
   abbrev Made : ℕ → List ℕ → Type 0
-  Made r ys = (r ≡ pick (fit xs (long 4 t)) 0 13) × (ys ≡ pick (fit xs (long 4 t)) (store (fromLanes 4 (timingAt (at t)))) xs)
+  Made r ys = (r ≡ pick (fit xs (sized 4 t)) 0 13) × (ys ≡ pick (fit xs (sized 4 t)) (store (fromLanes 4 (timingAt (at t)))) xs)
 
-  pub not-made : fit xs (long 4 t) ≡ false → Made 13 xs
+  pub not-made : fit xs (sized 4 t) ≡ false → Made 13 xs
   not-made e = (off _ _ e refl, off _ _ e refl)
 
   pub made : {zs : List ℕ} → length xs ≡ slots → length t ≡ 4 → zs ≡ replicate slots 0 → Made 0 (write (newRows t) zs)
@@ -91,9 +93,9 @@ module _ (xs : List ℕ) (b : Buffers) (n : length xs ≡ slots) where
 
   module _ (commands : List ℕ) (now d : ℕ) (l : length commands ≡ 4) where
     abbrev ThrottlesCalled : List ℕ → ℕ → Type 0
-    ThrottlesCalled ys r = Called (fit xs (long 4 commands)) (command-throttles commands now d) b xs ys r
+    ThrottlesCalled ys r = Called (fit xs (sized 4 commands)) (command-throttles commands now d) b xs ys r
 
-    throttles-fit : fit xs (long 4 commands) ≡ true
+    throttles-fit : fit xs (sized 4 commands) ≡ true
     throttles-fit = both-fit xs commands 4 n l
 
     throttles-act : step 4 (stateAt xs b) (command-throttles commands now d) ≡ commanded (stateAt xs b) (commandThrottles 4 commands now d (load xs .core))
@@ -122,9 +124,9 @@ module _ (xs : List ℕ) (b : Buffers) (n : length xs ≡ slots) where
 
   module _ (motor : ℕ) (s : List ℕ) (l : length s ≡ 4) where
     abbrev SpecialCalled : List ℕ → ℕ → Type 0
-    SpecialCalled ys r = Called (fit xs (long 4 s)) (command-special motor (runGiven s)) b xs ys r
+    SpecialCalled ys r = Called (fit xs (sized 4 s)) (command-special motor (runGiven s)) b xs ys r
 
-    run-fits : fit xs (long 4 s) ≡ true
+    run-fits : fit xs (sized 4 s) ≡ true
     run-fits = both-fit xs s 4 n l
 
     pub special-missing : 4 ≤ motor → SpecialCalled xs 12
@@ -189,13 +191,13 @@ module _ (xs : List ℕ) (b : Buffers) (n : length xs ≡ slots) where
   -- ---- take_telemetry_request_sent
 
   module _ (out : List ℕ) (l : length out ≡ 2) where
-    out-fits : fit xs (long 2 out) ≡ true
+    out-fits : fit xs (sized 2 out) ≡ true
     out-fits = both-fit xs out 2 n l
 
-    pub sent-taken : {ys : List ℕ} → Moves (onCore clearRequestSent) xs ys → Called (fit xs (long 2 out)) take-telemetry-request-sent b xs ys 0
+    pub sent-taken : {ys : List ℕ} → Moves (onCore clearRequestSent) xs ys → Called (fit xs (sized 2 out)) take-telemetry-request-sent b xs ys 0
     unfolding step portRefusal
     sent-taken m = called-done xs out-fits refl m
 
-    pub sent-told : {after : List ℕ} → after ≡ motorSlots (choice (at xs SENT)) → after ≡ outAfter (answerOf (fit xs (long 2 out)) (stateAt xs b) take-telemetry-request-sent) out
+    pub sent-told : {after : List ℕ} → after ≡ motorSlots (choice (at xs REQUEST-SENT)) → after ≡ outAfter (answerOf (fit xs (sized 2 out)) (stateAt xs b) take-telemetry-request-sent) out
     unfolding step portRefusal load
-    sent-told e = out-filled {a′ = motor-sent (choice (at xs SENT))} out (answer-fits take-telemetry-request-sent (stateAt xs b) out-fits) refl e
+    sent-told e = out-filled {a′ = motor-sent (choice (at xs REQUEST-SENT))} out (answer-fits take-telemetry-request-sent (stateAt xs b) out-fits) refl e

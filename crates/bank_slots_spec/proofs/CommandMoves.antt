@@ -21,7 +21,9 @@ use Rattle.dshot_bank_spec.specs.Commands.{fromLanes, isRunning}
 use Rattle.dshot_bank_spec.proofs.LaneLaws.{on, off}
 use Rattle.bank_slots_spec.specs.Memory.{Row, _holds_, at, write, longRows}
 use Rattle.bank_slots_spec.specs.Memory as Memory
-use Rattle.bank_slots_spec.specs.Layout.{slots, TIMING, VALUES, LEASE-STARTED, LEASE-OVER, REQUEST, BIDIRECTIONAL, REPLIES, choice, four, timingAt, bankAt, load, valueRows, store}
+use Rattle.bank_slots_spec.specs.Places.{slots, TIMING, VALUES, LEASE-STARTED, LEASE-OVER, REQUEST, BIDIRECTIONAL, REPLIES}
+use Rattle.bank_slots_spec.specs.Load.{choice, four, timingAt, bankAt, load}
+use Rattle.bank_slots_spec.specs.Store.{valueRows, store}
 use Rattle.bank_slots_spec.specs.Moves.{Moves, onCore}
 use Rattle.bank_slots_spec.specs.Outs.{motorSlots}
 use Rattle.bank_slots_spec.specs.Parts.{demanded}

@@ -11,7 +11,8 @@ use Rattle.dshot_bank_spec.specs.With.{withStats, withLaneCompletions}
 use Rattle.dshot_bank_spec.specs.Replies.{wrappingAdd}
 use Rattle.dshot_bank_spec.specs.Interrupt.{countCompletion}
 use Rattle.bank_slots_spec.specs.Memory.{Row, at, write, over, within, word, wordRows}
-use Rattle.bank_slots_spec.specs.Layout.{slots, LANE-COMPLETIONS, bankAt}
+use Rattle.bank_slots_spec.specs.Places.{slots, LANE-COMPLETIONS}
+use Rattle.bank_slots_spec.specs.Load.{bankAt}
 use Rattle.bank_slots_spec.specs.Written.{WrittenAt}
 use Rattle.bank_slots_spec.specs.Moves.{onCore, Moves}
 use Rattle.bank_slots_spec.proofs.MemoryLaws.{word-back}

@@ -15,7 +15,9 @@ use Rattle.dshot_bank_spec.specs.With.{withDmaFaults, withSpuriousInterrupts, w
 use Rattle.dshot_bank_spec.specs.Commands.{commandStop, clearRequestSent, cancelTelemetryRequest}
 use Rattle.dshot_bank_spec.specs.Send.{countFault, latchFault}
 use Rattle.bank_slots_spec.specs.Memory.{Row, _holds_, at, write, word, wordRows}
-use Rattle.bank_slots_spec.specs.Layout.{slots, bankAt, load, four, VALUES, LEASE-OVER, REQUEST, SENT, RUN, runRows, BUSY, FAULTED, RECEIVING, WAITING, DMA-FAULTS, SPURIOUS}
+use Rattle.bank_slots_spec.specs.Places.{slots, VALUES, LEASE-OVER, REQUEST, REQUEST-SENT, RUN, BUSY, FAULTED, RECEIVING, REPLIES-WAITING, DMA-FAULTS, SPURIOUS}
+use Rattle.bank_slots_spec.specs.Load.{bankAt, load, four}
+use Rattle.bank_slots_spec.specs.Store.{runRows}
 use Rattle.bank_slots_spec.specs.Written.{RunFits}
 use Rattle.bank_slots_spec.specs.Moves.{Moves, onCore}
 use Rattle.bank_slots_spec.specs.Parts.{bumped, queued, faultCounted, flagsLatched, requestsCleared}
@@ -31,15 +33,15 @@ abbrev pub stopRows : List Row
 stopRows = zeros VALUES ++ zeros LEASE-OVER
 
 abbrev pub latchRows : List Row
-latchRows = (FAULTED holds 1) ∷ (BUSY holds 0) ∷ (RECEIVING holds 0) ∷ (WAITING holds 0) ∷ []
+latchRows = (FAULTED holds 1) ∷ (BUSY holds 0) ∷ (RECEIVING holds 0) ∷ (REPLIES-WAITING holds 0) ∷ []
 
 abbrev runCleared : List Row
 runCleared = (RUN holds 0) ∷ (RUN + 1 holds 0) ∷ (RUN + 2 holds 0) ∷ (RUN + 3 holds 0) ∷ (RUN + 4 holds 0) ∷ []
 
 module _ (xs : List ℕ) (n : length xs ≡ slots) where
-  pub sent-cleared : Moves (onCore clearRequestSent) xs (write ((SENT holds 0) ∷ []) xs)
+  pub sent-cleared : Moves (onCore clearRequestSent) xs (write ((REQUEST-SENT holds 0) ∷ []) xs)
   unfolding clearRequestSent
-  sent-cleared = moves-write ((SENT holds 0) ∷ []) xs n refl refl (λ w. (w .0, (w .1 .0, ((w .1 .1 .0 .0, refl, w .1 .1 .0 .2), w .1 .1 .1))))
+  sent-cleared = moves-write ((REQUEST-SENT holds 0) ∷ []) xs n refl refl (λ w. (w .0, (w .1 .0, ((w .1 .1 .0 .0, refl, w .1 .1 .0 .2), w .1 .1 .1))))
 
   pub request-cleared : Moves (onCore cancelTelemetryRequest) xs (write ((REQUEST holds 0) ∷ []) xs)
   unfolding cancelTelemetryRequest

@@ -18,7 +18,8 @@ use Rattle.dshot_spec.specs.Command.{CommandRun}
 use Rattle.dshot_bank_spec.specs.State.{MotorRun, leaseOf}
 use Rattle.dshot_bank_spec.proofs.LaneLaws.{on, off}
 use Rattle.bank_slots_spec.specs.Memory.{word, long}
-use Rattle.bank_slots_spec.specs.Layout.{flag, choice, reply, four, bit, choiceSlot, leaseNumber, replyKind, replyNumber, runMotor, ofRun}
+use Rattle.bank_slots_spec.specs.Load.{flag, choice, reply, four}
+use Rattle.bank_slots_spec.specs.Store.{bit, choiceSlot, leaseNumber, replyKind, replyNumber, runMotor, ofRun}
 use Rattle.bank_slots_spec.specs.Written.{isFlag, isChoice, isRun, isReply, ChoiceFits, LeaseFits, RunFits, SequenceFits, ReplyFits}
 use Rattle.bank_slots_spec.proofs.MemoryLaws.{both}
 

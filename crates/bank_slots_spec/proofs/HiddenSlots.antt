@@ -18,9 +18,11 @@ use Rattle.dshot_bank_spec.specs.Calls as Call
 use Rattle.dshot_bank_spec.proofs.Hidden.{hidden-replies}
 use Rattle.dshot_bank_spec.specs.Lists.{hideAnswer, hideTaken, hideCounts, hideBank}
 use Rattle.bank_slots_spec.specs.Memory.{at, write}
-use Rattle.bank_slots_spec.specs.Layout.{REPLIES, fourLists, replyKind, replyNumber, coreRows, store}
+use Rattle.bank_slots_spec.specs.Places.{REPLIES}
+use Rattle.bank_slots_spec.specs.Load.{fourLists}
+use Rattle.bank_slots_spec.specs.Store.{replyKind, replyNumber, coreRows, store}
 use Rattle.bank_slots_spec.specs.Called.{number}
-use Rattle.bank_slots_spec.specs.Outs.{wordSlots, replySlots, takenSlots, replyCountSlots, slotsOf, outAfter}
+use Rattle.bank_slots_spec.specs.Outs.{wordSlots, replySlots, repliesSlots, replyCountSlots, slotsOf, outAfter}
 use Rattle.bank_slots_spec.specs.SlotClaims.{Within, Tells}
 
 -- ---- lists of parts
@@ -65,7 +67,7 @@ reply-long : (a : Reply.Answer Reading) → length (replySlots a) ≡ 4
 reply-long (given r) = refl
 reply-long (refused n) = refl
 
-taken-told : (lane : ℕ) (r : Option (List (Reply.Answer Reading))) (i : ℕ) → (Within (1 + 4 * lane) 4 i → ⊥) → at (takenSlots (hideTaken lane r)) i ≡ at (takenSlots r) i
+taken-told : (lane : ℕ) (r : Option (List (Reply.Answer Reading))) (i : ℕ) → (Within (1 + 4 * lane) 4 i → ⊥) → at (repliesSlots (hideTaken lane r)) i ≡ at (repliesSlots r) i
 taken-told lane none i h = refl
 taken-told lane (some l) zero h = refl
 taken-told lane (some l) (suc i) h =

@@ -21,10 +21,11 @@ use Rattle.dshot_bank_spec.specs.Interrupt.{InterruptEvent, completed, faulted,
 use Rattle.dshot_bank_spec.specs.Calls.{Call, on-dma-interrupt, refused, State, Stepped, told, act, portRefusal, step}
 use Rattle.dshot_bank_spec.proofs.LaneLaws.{on, off}
 use Rattle.bank_slots_spec.specs.Memory.{_holds_, at, write, word, wordRows}
-use Rattle.bank_slots_spec.specs.Layout.{slots, bankAt, load, flag, BUSY, FAULTED, RECEIVING, WAITING, COMPLETION, FRAMES-COMPLETED, LANE-COMPLETIONS}
+use Rattle.bank_slots_spec.specs.Places.{slots, BUSY, FAULTED, RECEIVING, REPLIES-WAITING, COMPLETION-MASK, FRAMES-COMPLETED, LANE-COMPLETIONS}
+use Rattle.bank_slots_spec.specs.Load.{bankAt, load, flag}
 use Rattle.bank_slots_spec.specs.Moves.{Moves, onCore}
 use Rattle.bank_slots_spec.specs.Parts.{bumped}
-use Rattle.bank_slots_spec.specs.Called.{Called, fit, long, number, stateAt, answerOf}
+use Rattle.bank_slots_spec.specs.Called.{Called, fit, sized, number, stateAt, answerOf}
 use Rattle.bank_slots_spec.specs.Outs.{interruptEvent, interruptSlots, outAfter}
 use Rattle.bank_slots_spec.specs.Handles.{Handles}
 use Rattle.bank_slots_spec.proofs.MemoryLaws.{length-write, word-back}
@@ -50,14 +51,14 @@ module _ (xs : List ℕ) (n : length xs ≡ slots) where
       let one : Moves (onCore busyCleared) xs ys = moves-write ((BUSY holds 0) ∷ []) xs n refl refl (λ w. ((refl, w .0 .1, w .0 .2, w .0 .3, w .0 .4, w .0 .5), w .1)) in
       moves-as (moves-then one (counted ys (length-write ((BUSY holds 0) ∷ []) xs ∙ n) FRAMES-COMPLETED withFramesCompleted (λ (s : Stats). s .framesCompleted) refl (λ v. refl) refl (λ w. w))) refl
 
-  pub window-opened : Moves (onCore windowOpened) xs (write ((RECEIVING holds 1) ∷ wordRows COMPLETION 0) xs)
+  pub window-opened : Moves (onCore windowOpened) xs (write ((RECEIVING holds 1) ∷ wordRows COMPLETION-MASK 0) xs)
   unfolding windowOpened
-  window-opened = moves-write ((RECEIVING holds 1) ∷ wordRows COMPLETION 0) xs n refl refl (λ w. ((w .0 .0, w .0 .1, w .0 .2, refl, w .0 .4, w .0 .5), w .1))
+  window-opened = moves-write ((RECEIVING holds 1) ∷ wordRows COMPLETION-MASK 0) xs n refl refl (λ w. ((w .0 .0, w .0 .1, w .0 .2, refl, w .0 .4, w .0 .5), w .1))
 
-  window-replied : Moves (onCore replied) xs (write ((RECEIVING holds 0) ∷ (WAITING holds 1) ∷ []) xs)
-  window-replied = moves-write ((RECEIVING holds 0) ∷ (WAITING holds 1) ∷ []) xs n refl refl (λ w. ((w .0 .0, w .0 .1, w .0 .2, refl, refl, w .0 .5), w .1))
+  window-replied : Moves (onCore replied) xs (write ((RECEIVING holds 0) ∷ (REPLIES-WAITING holds 1) ∷ []) xs)
+  window-replied = moves-write ((RECEIVING holds 0) ∷ (REPLIES-WAITING holds 1) ∷ []) xs n refl refl (λ w. ((w .0 .0, w .0 .1, w .0 .2, refl, refl, w .0 .5), w .1))
 
-  pub window-closed : {ys : List ℕ} → Moves (onCore frameDone) (write ((RECEIVING holds 0) ∷ (WAITING holds 1) ∷ []) xs) ys → Moves (onCore windowClosed) xs ys
+  pub window-closed : {ys : List ℕ} → Moves (onCore frameDone) (write ((RECEIVING holds 0) ∷ (REPLIES-WAITING holds 1) ∷ []) xs) ys → Moves (onCore windowClosed) xs ys
   unfolding windowClosed
   window-closed m = moves-as (moves-then window-replied m) refl
 
@@ -69,8 +70,8 @@ maskSet v c = withFrame (withCompletionMask v (c .frame)) c
 abbrev laneCounted : ℕ → Core → Core
 laneCounted lane c = withStats (countCompletion lane (c .stats)) c
 
-mask-set : (xs : List ℕ) → length xs ≡ slots → (v : ℕ) → Moves (onCore (maskSet v)) xs (write (wordRows COMPLETION v) xs)
-mask-set xs n v = moves-write (wordRows COMPLETION v) xs n refl (λ j. onCore (maskSet (word-back v j)) (bankAt (at xs))) (λ w. w)
+mask-set : (xs : List ℕ) → length xs ≡ slots → (v : ℕ) → Moves (onCore (maskSet v)) xs (write (wordRows COMPLETION-MASK v) xs)
+mask-set xs n v = moves-write (wordRows COMPLETION-MASK v) xs n refl (λ j. onCore (maskSet (word-back v j)) (bankAt (at xs))) (λ w. w)
 
 -- a window of samples is not counted
 counts-sent : (lane : ℕ) (receiving : Bool) (c : Core) → c .frame .receiving ≡ receiving
@@ -79,12 +80,12 @@ counts-sent lane true c e = ap (λ (r : Bool). withStats (if r then c .stats els
 counts-sent lane false c e = ap (λ (r : Bool). withStats (if r then c .stats else countCompletion lane (c .stats)) c) (sym e)
 
 module _ (xs ys zs : List ℕ) (n : length xs ≡ slots) where
-  pub lane-done : (lane mask : ℕ) (sent : Bool) → lane < 4 → mask ≡ bitOr (word COMPLETION (at xs)) (completionBit lane)
-      → ys ≡ write (wordRows COMPLETION mask) xs → sent ≡ eqb (at ys RECEIVING) 0
+  pub lane-done : (lane mask : ℕ) (sent : Bool) → lane < 4 → mask ≡ bitOr (word COMPLETION-MASK (at xs)) (completionBit lane)
+      → ys ≡ write (wordRows COMPLETION-MASK mask) xs → sent ≡ eqb (at ys RECEIVING) 0
       → zs ≡ pick sent (bumped (LANE-COMPLETIONS + 2 * lane) ys) ys → Moves (onCore (laneDone lane)) xs zs
   unfolding load laneDone
   lane-done lane mask sent h e q t r =
-      let l : length ys ≡ slots = ap length q ∙ length-write (wordRows COMPLETION mask) xs ∙ n in
+      let l : length ys ≡ slots = ap length q ∙ length-write (wordRows COMPLETION-MASK mask) xs ∙ n in
       let one : Moves (onCore (maskSet mask)) xs ys = moves-at (sym q) (mask-set xs n mask) in
       let two : Moves (onCore (corePick sent (laneCounted lane))) ys zs = moves-at (sym r) (bumped-if (laneCounted lane) sent (LANE-COMPLETIONS + 2 * lane) ys (lane-counted ys lane l h)) in
       let s : sent ≡ not (load xs .core .frame .receiving) = t ∙ sym (twice (eqb (at ys RECEIVING) 0)) ∙ ap (λ (b : Bank). not (b .core .frame .receiving)) (one .loads) in
@@ -153,31 +154,31 @@ all-complete : (mask : ℕ) → mask ≡ 15 → not (eqb mask 15) ≡ false
 all-complete mask h = ap not (eq-eqb mask 15 h)
 
 module _ (lane : ℕ) (turned back : Bool) {xs out : List ℕ} where
-  pub after-some : (word COMPLETION (at xs) ≡ 15 → ⊥) → out ≡ pausedSlots lane 0 → Handles (afterLane 4 lane true false turned back) xs xs out
+  pub after-some : (word COMPLETION-MASK (at xs) ≡ 15 → ⊥) → out ≡ pausedSlots lane 0 → Handles (afterLane 4 lane true false turned back) xs xs out
   unfolding load afterLane
   after-some h t = handles-as (handles-paused lane completed t) (on _ _ (ap not (ne-eqb _ 15 h)) refl)
 
-  pub after-opened : {ys : List ℕ} → word COMPLETION (at xs) ≡ 15 → opensWindow (load xs .core .frame) ≡ true → not turned ≡ false
+  pub after-opened : {ys : List ℕ} → word COMPLETION-MASK (at xs) ≡ 15 → opensWindow (load xs .core .frame) ≡ true → not turned ≡ false
       → Moves (onCore windowOpened) xs ys → out ≡ orderSlots lane 56 → Handles (afterLane 4 lane true false turned back) xs ys out
   unfolding load afterLane
   after-opened h o r m t = handles-as (handles-order lane begin-receive m t) (off _ _ (all-complete _ h) (on _ _ o (on _ _ (from-opposite turned r) refl)))
 
-  pub after-not-opened : {ys : List ℕ} → word COMPLETION (at xs) ≡ 15 → opensWindow (load xs .core .frame) ≡ true → not turned ≡ true
+  pub after-not-opened : {ys : List ℕ} → word COMPLETION-MASK (at xs) ≡ 15 → opensWindow (load xs .core .frame) ≡ true → not turned ≡ true
       → Handles (latched 4 lane true false true true false faulted (begin-receive ∷ [])) xs ys out → Handles (afterLane 4 lane true false turned back) xs ys out
   unfolding load afterLane
   after-not-opened h o r m = handles-as m (off _ _ (all-complete _ h) (on _ _ o (off _ _ (from-opposite turned r) refl)))
 
-  pub after-closed : {ys : List ℕ} → word COMPLETION (at xs) ≡ 15 → opensWindow (load xs .core .frame) ≡ false → flag (at xs RECEIVING) ≡ true → not back ≡ false
+  pub after-closed : {ys : List ℕ} → word COMPLETION-MASK (at xs) ≡ 15 → opensWindow (load xs .core .frame) ≡ false → flag (at xs RECEIVING) ≡ true → not back ≡ false
       → Moves (onCore windowClosed) xs ys → out ≡ orderSlots lane 64 → Handles (afterLane 4 lane true false turned back) xs ys out
   unfolding load afterLane
   after-closed h o r b m t = handles-as (handles-order lane end-receive m t) (off _ _ (all-complete _ h) (off _ _ o (on _ _ r (on _ _ (from-opposite back b) refl))))
 
-  pub after-not-closed : {ys : List ℕ} → word COMPLETION (at xs) ≡ 15 → opensWindow (load xs .core .frame) ≡ false → flag (at xs RECEIVING) ≡ true → not back ≡ true
+  pub after-not-closed : {ys : List ℕ} → word COMPLETION-MASK (at xs) ≡ 15 → opensWindow (load xs .core .frame) ≡ false → flag (at xs RECEIVING) ≡ true → not back ≡ true
       → Handles (latched 4 lane true false true true false faulted (end-receive ∷ [])) xs ys out → Handles (afterLane 4 lane true false turned back) xs ys out
   unfolding load afterLane
   after-not-closed h o r b m = handles-as m (off _ _ (all-complete _ h) (off _ _ o (on _ _ r (off _ _ (from-opposite back b) refl))))
 
-  pub after-sent : {ys : List ℕ} → word COMPLETION (at xs) ≡ 15 → opensWindow (load xs .core .frame) ≡ false → flag (at xs RECEIVING) ≡ false
+  pub after-sent : {ys : List ℕ} → word COMPLETION-MASK (at xs) ≡ 15 → opensWindow (load xs .core .frame) ≡ false → flag (at xs RECEIVING) ≡ false
       → Moves (onCore frameDone) xs ys → out ≡ orderSlots lane 32 → Handles (afterLane 4 lane true false turned back) xs ys out
   unfolding load afterLane
   after-sent h o r m t = handles-as (handles-order lane stop-frame m t) (off _ _ (all-complete _ h) (off _ _ o (off _ _ r refl)))
@@ -206,23 +207,23 @@ module _ (lane : ℕ) (complete error turned back : Bool) {xs out : List ℕ} wh
     on-idle b h = handles-as h (off _ _ f (on _ _ b refl))
 
     module _ (b : not (flag (at xs BUSY)) ≡ false) (bit : ℕ) (e : bit ≡ completionBit lane) where
-      pub on-again : (bitAnd (word COMPLETION (at xs)) bit ≡ 0 → ⊥) → Handles (latches lane true spurious) xs ys out → Handles (onDmaInterrupt 4 lane complete error turned back) xs ys out
+      pub on-again : (bitAnd (word COMPLETION-MASK (at xs)) bit ≡ 0 → ⊥) → Handles (latches lane true spurious) xs ys out → Handles (onDmaInterrupt 4 lane complete error turned back) xs ys out
       unfolding load onDmaInterrupt
-      on-again k h = handles-as h (off _ _ f (off _ _ b (on _ _ (bit-there (word COMPLETION (at xs)) bit lane e k) refl)))
+      on-again k h = handles-as h (off _ _ f (off _ _ b (on _ _ (bit-there (word COMPLETION-MASK (at xs)) bit lane e k) refl)))
 
-      module _ (k : bitAnd (word COMPLETION (at xs)) bit ≡ 0) where
+      module _ (k : bitAnd (word COMPLETION-MASK (at xs)) bit ≡ 0) where
         pub on-error : error ≡ true → Handles (latches lane false faulted) xs ys out → Handles (onDmaInterrupt 4 lane complete error turned back) xs ys out
         unfolding load onDmaInterrupt
-        on-error r h = handles-as h (off _ _ f (off _ _ b (off _ _ (bit-missing (word COMPLETION (at xs)) bit lane e k) (on _ _ r refl))))
+        on-error r h = handles-as h (off _ _ f (off _ _ b (off _ _ (bit-missing (word COMPLETION-MASK (at xs)) bit lane e k) (on _ _ r refl))))
 
         pub on-incomplete : error ≡ false → not complete ≡ true → Handles (latches lane true spurious) xs ys out → Handles (onDmaInterrupt 4 lane complete error turned back) xs ys out
         unfolding load onDmaInterrupt
-        on-incomplete r d h = handles-as h (off _ _ f (off _ _ b (off _ _ (bit-missing (word COMPLETION (at xs)) bit lane e k) (off _ _ r (on _ _ d refl)))))
+        on-incomplete r d h = handles-as h (off _ _ f (off _ _ b (off _ _ (bit-missing (word COMPLETION-MASK (at xs)) bit lane e k) (off _ _ r (on _ _ d refl)))))
 
         pub on-complete : {zs : List ℕ} → error ≡ false → not complete ≡ false → Moves (onCore (laneDone lane)) xs zs → Handles (afterLane 4 lane true false turned back) zs ys out
             → Handles (onDmaInterrupt 4 lane complete error turned back) xs ys out
         unfolding load onDmaInterrupt afterLane
-        on-complete r d m h = handles-as (handles-after m h) (off _ _ f (off _ _ b (off _ _ (bit-missing (word COMPLETION (at xs)) bit lane e k) (off _ _ r (off _ _ d refl)))))
+        on-complete r d m h = handles-as (handles-after m h) (off _ _ f (off _ _ b (off _ _ (bit-missing (word COMPLETION-MASK (at xs)) bit lane e k) (off _ _ r (off _ _ d refl)))))
 
 -- ---- the call
 
@@ -245,25 +246,25 @@ module _ (motor : ℕ) (complete error turned back : Bool) where
   -- the call's two promises
   abbrev Answers : (xs ys out told : List ℕ) → ℕ → Type 0
   Answers xs ys out told r =
-      ((b : Buffers) → Called (fit xs (long 9 out)) call b xs ys r)
-      × ((b : Buffers) → told ≡ outAfter (answerOf (fit xs (long 9 out)) (stateAt xs b) call) out)
+      ((b : Buffers) → Called (fit xs (sized 9 out)) call b xs ys r)
+      × ((b : Buffers) → told ≡ outAfter (answerOf (fit xs (sized 9 out)) (stateAt xs b) call) out)
 
   module _ (xs out : List ℕ) where
-    unfit : fit xs (long 9 out) ≡ false → Answers xs xs out out 13
+    unfit : fit xs (sized 9 out) ≡ false → Answers xs xs out out 13
     unfit e = (λ b. called-unfit xs e, λ b. out-kept 13 out (answer-unfit call (stateAt xs b) e) (λ z. omega arith))
 
     -- a state of another length
     pub call-unfit : (length xs ≡ slots → ⊥) → Answers xs xs out out 13
-    call-unfit h = unfit (state-short xs (long 9 out) h)
+    call-unfit h = unfit (state-short xs (sized 9 out) h)
 
     module _ (n : length xs ≡ slots) where
       -- an answer of another length
       pub call-short : (length out ≡ 9 → ⊥) → Answers xs xs out out 13
-      call-short h = unfit (other-short xs (long 9 out) n (ne-eqb (length out) 9 h))
+      call-short h = unfit (other-short xs (sized 9 out) n (ne-eqb (length out) 9 h))
 
       module _ (o : length out ≡ 9) where
-        fits : fit xs (long 9 out) ≡ true
-        fits = state-fits xs (long 9 out) n ∙ eq-eqb (length out) 9 o
+        fits : fit xs (sized 9 out) ≡ true
+        fits = state-fits xs (sized 9 out) n ∙ eq-eqb (length out) 9 o
 
         pub call-refused : 4 ≤ motor → Answers xs xs out out 12
         call-refused h =

@@ -23,11 +23,13 @@ use Rattle.dshot_bank_spec.specs.Calls.{Call, Answer, is-bidirectional, is-faul
 use Rattle.dshot_bank_spec.specs.Calls as Call
 use Rattle.dshot_bank_spec.proofs.LaneLaws.{off}
 use Rattle.bank_slots_spec.specs.Memory.{_holds_, at, write, word, wordRows}
-use Rattle.bank_slots_spec.specs.Layout.{flag, bit, reply, four, statsAt, laneAt, bankAt, load, VALUES, RUN, FAULTED, BIDIRECTIONAL, HELD, IN-SECOND, FRAMES-STARTED, FRAMES-COMPLETED, LANE-COMPLETIONS, BUSY-SKIPS, LEASE-EXPIRIES, FRAME-TIMEOUTS, DMA-FAULTS, SPURIOUS, REPLIES}
-use Rattle.bank_slots_spec.specs.Layout as Layout
+use Rattle.bank_slots_spec.specs.Places.{VALUES, RUN, FAULTED, BIDIRECTIONAL, REPLIES-HELD, IN-SECOND, FRAMES-STARTED, FRAMES-COMPLETED, LANE-COMPLETIONS, BUSY-SKIPS, LEASE-EXPIRIES, FRAME-TIMEOUTS, DMA-FAULTS, SPURIOUS, REPLIES}
+use Rattle.bank_slots_spec.specs.Load.{flag, reply, four, statsAt, laneAt, bankAt, load}
+use Rattle.bank_slots_spec.specs.Store.{bit}
+use Rattle.bank_slots_spec.specs.Places as Places
 use Rattle.bank_slots_spec.specs.Moves.{Moves, onCore}
-use Rattle.bank_slots_spec.specs.Called.{Called, fit, long, number, stateAt, answerOf}
-use Rattle.bank_slots_spec.specs.Outs.{countSlots, replyCountSlots, replySlots, takenSlots, slotsOf, outAfter}
+use Rattle.bank_slots_spec.specs.Called.{Called, fit, sized, number, stateAt, answerOf}
+use Rattle.bank_slots_spec.specs.Outs.{countSlots, replyCountSlots, replySlots, repliesSlots, slotsOf, outAfter}
 use Rattle.bank_slots_spec.specs.Parts.{slotRows}
 use Rattle.bank_slots_spec.proofs.MemoryLaws.{length-write}
 use Rattle.bank_slots_spec.proofs.FillLaws.{filled-to, filled}
@@ -41,29 +43,29 @@ module _ (call : Call) (k : ℕ) (xs out : List ℕ) where
   -- with some buffers: what is answered, and what the lent slots hold then
   abbrev pub LooksAt : Buffers → List ℕ → ℕ → Type 0
   LooksAt b after r =
-      (r ≡ number (answerOf (fit xs (long k out)) (stateAt xs b) call))
-      × (after ≡ outAfter (answerOf (fit xs (long k out)) (stateAt xs b) call) out)
+      (r ≡ number (answerOf (fit xs (sized k out)) (stateAt xs b) call))
+      × (after ≡ outAfter (answerOf (fit xs (sized k out)) (stateAt xs b) call) out)
 
   -- with any
   abbrev pub Looks : List ℕ → ℕ → Type 0
   Looks after r =
-      ((b : Buffers) → r ≡ number (answerOf (fit xs (long k out)) (stateAt xs b) call))
-      × ((b : Buffers) → after ≡ outAfter (answerOf (fit xs (long k out)) (stateAt xs b) call) out)
+      ((b : Buffers) → r ≡ number (answerOf (fit xs (sized k out)) (stateAt xs b) call))
+      × ((b : Buffers) → after ≡ outAfter (answerOf (fit xs (sized k out)) (stateAt xs b) call) out)
 
   any-buffers : {after : List ℕ} {r : ℕ} → ((b : Buffers) → LooksAt b after r) → Looks after r
   any-buffers h = (λ b. h b .0, λ b. h b .1)
 
-  refuses : (b : Buffers) (n : ℕ) → answerOf (fit xs (long k out)) (stateAt xs b) call ≡ Call.refused n → (n ≡ 0 → ⊥) → LooksAt b out n
+  refuses : (b : Buffers) (n : ℕ) → answerOf (fit xs (sized k out)) (stateAt xs b) call ≡ Call.refused n → (n ≡ 0 → ⊥) → LooksAt b out n
   refuses b n e z = (sym (ap number e), out-kept n out e z)
 
   -- a state of another length
-  pub unfit-at : (length xs ≡ Layout.slots → ⊥) → (b : Buffers) → LooksAt b out 13
-  unfit-at h b = refuses b 13 (answer-unfit call (stateAt xs b) (state-short xs (long k out) h)) (λ z. omega arith)
+  pub unfit-at : (length xs ≡ Places.slots → ⊥) → (b : Buffers) → LooksAt b out 13
+  unfit-at h b = refuses b 13 (answer-unfit call (stateAt xs b) (state-short xs (sized k out) h)) (λ z. omega arith)
 
-  pub look-unfit : (length xs ≡ Layout.slots → ⊥) → Looks out 13
+  pub look-unfit : (length xs ≡ Places.slots → ⊥) → Looks out 13
   look-unfit h = any-buffers (unfit-at h)
 
-  module _ (n : length xs ≡ Layout.slots) where
+  module _ (n : length xs ≡ Places.slots) where
     -- lent slots of another length
     pub short-at : (length out ≡ k → ⊥) → (b : Buffers) → LooksAt b out 13
     short-at h b = refuses b 13 (answer-unfit call (stateAt xs b) (other-long xs out k n h)) (λ z. omega arith)
@@ -95,11 +97,11 @@ run-there false run = refl
 module _ (xs out : List ℕ) where
   -- the flag in slot k is told, where both slices fit
   abbrev Told : ℕ → List ℕ → ℕ → Type 0
-  Told k after r = (r ≡ pick (fit xs (long 1 out)) 0 13) × (after ≡ pick (fit xs (long 1 out)) (bit (flag (at xs k)) ∷ []) out)
+  Told k after r = (r ≡ pick (fit xs (sized 1 out)) 0 13) × (after ≡ pick (fit xs (sized 1 out)) (bit (flag (at xs k)) ∷ []) out)
 
   flag-told : {after : List ℕ} {r : ℕ} (k : ℕ) (call : Call) → ((b : Buffers) → step 4 (stateAt xs b) call .answer ≡ Call.flag (flag (at xs k))) → Told k after r → Looks call 1 xs out after r
   unfolding answerOf outAfter
-  flag-told k call e h = any-buffers call 1 xs out (λ b. (h .0 ∙ by (fit xs (long 1 out)) b .0, h .1 ∙ by (fit xs (long 1 out)) b .1))
+  flag-told k call e h = any-buffers call 1 xs out (λ b. (h .0 ∙ by (fit xs (sized 1 out)) b .0, h .1 ∙ by (fit xs (sized 1 out)) b .1))
     where
       by : (t : Bool) (b : Buffers) → (pick t 0 13 ≡ number (answerOf t (stateAt xs b) call)) × (pick t (bit (flag (at xs k)) ∷ []) out ≡ outAfter (answerOf t (stateAt xs b) call) out)
       by true b = (sym (ap number (e b)), sym (ap (λ (a : Answer). outAfter a out) (e b)))
@@ -117,7 +119,7 @@ module _ (xs out : List ℕ) where
   unfolding step portRefusal load
   pending-told = flag-told RUN command-pending (λ b. ap Call.flag (run-there (eqb (at xs RUN) 0) _))
 
-module _ (xs out : List ℕ) (n : length xs ≡ Layout.slots) where
+module _ (xs out : List ℕ) (n : length xs ≡ Places.slots) where
   pub values-told : length out ≡ 4 → Looks requested-values 4 xs out (write (slotRows 0 (four (λ (i : ℕ). at xs (VALUES + i)))) out) 0
   unfolding step portRefusal load
   values-told l = let v = four (λ (i : ℕ). at xs (VALUES + i)) in look-told requested-values 4 xs out n l (values v) (λ b. refl) refl (filled v out l)
@@ -241,13 +243,13 @@ module _ (xs out : List ℕ) where
   -- the taking's two promises
   abbrev pub Taken : List ℕ → List ℕ → ℕ → Type 0
   Taken ys after r =
-      ((b : Buffers) → Called (fit xs (long 17 out)) take-replies b xs ys r)
-      × ((b : Buffers) → after ≡ outAfter (answerOf (fit xs (long 17 out)) (stateAt xs b) take-replies) out)
+      ((b : Buffers) → Called (fit xs (sized 17 out)) take-replies b xs ys r)
+      × ((b : Buffers) → after ≡ outAfter (answerOf (fit xs (sized 17 out)) (stateAt xs b) take-replies) out)
 
-  pub take-unfit : (length xs ≡ Layout.slots → ⊥) → Taken xs out 13
-  take-unfit h = (λ b. called-unfit xs (state-short xs (long 17 out) h), look-unfit take-replies 17 xs out h .1)
+  pub take-unfit : (length xs ≡ Places.slots → ⊥) → Taken xs out 13
+  take-unfit h = (λ b. called-unfit xs (state-short xs (sized 17 out) h), look-unfit take-replies 17 xs out h .1)
 
-  module _ (n : length xs ≡ Layout.slots) where
+  module _ (n : length xs ≡ Places.slots) where
     pub take-short : (length out ≡ 17 → ⊥) → Taken xs out 13
     take-short h = (λ b. called-unfit xs (other-long xs out 17 n h), look-short take-replies 17 xs out n h .1)
 
@@ -256,7 +258,7 @@ module _ (xs out : List ℕ) where
       abbrev taken : Bool → Option (List (Reply.Answer Reading))
       taken held = if held then some (repliesOf (four (laneAt (at xs)))) else none
 
-      taken-so : {ys after : List ℕ} {held : Bool} → flag (at xs HELD) ≡ held → Moves (onCore repliesTaken) xs ys → after ≡ takenSlots (taken held) → Taken ys after 0
+      taken-so : {ys after : List ℕ} {held : Bool} → flag (at xs REPLIES-HELD) ≡ held → Moves (onCore repliesTaken) xs ys → after ≡ repliesSlots (taken held) → Taken ys after 0
       unfolding step portRefusal load
       taken-so {held = held} e m h = (
         λ b. called-done xs (both-fit xs out 17 n l) refl m,
@@ -264,7 +266,7 @@ module _ (xs out : List ℕ) where
       )
 
       -- none are held
-      pub none-taken : {after : List ℕ} → flag (at xs HELD) ≡ false → after ≡ replicate 17 0 → Taken xs after 0
+      pub none-taken : {after : List ℕ} → flag (at xs REPLIES-HELD) ≡ false → after ≡ replicate 17 0 → Taken xs after 0
       unfolding load
       none-taken e h = taken-so e (stays (ap (λ (t : Bool). onCore (λ (c : Core). withFrame (withRepliesHeld t (c .frame)) c) (bankAt (at xs))) e)) h
 
@@ -273,14 +275,14 @@ module _ (xs out : List ℕ) where
       laneTold from to before = write (slotRows to (replySlots (reply (at xs from) (word (from + 1) (at xs))))) before
 
       -- all lanes' replies
-      pub replies-taken : {c d e f : List ℕ} → flag (at xs HELD) ≡ true → c ≡ laneTold REPLIES 1 (set out 0 1) → d ≡ laneTold (REPLIES + 9) 5 c → e ≡ laneTold (REPLIES + 18) 9 d → f ≡ laneTold (REPLIES + 27) 13 e
-          → Taken (set xs HELD 0) f 0
+      pub replies-taken : {c d e f : List ℕ} → flag (at xs REPLIES-HELD) ≡ true → c ≡ laneTold REPLIES 1 (set out 0 1) → d ≡ laneTold (REPLIES + 9) 5 c → e ≡ laneTold (REPLIES + 18) 9 d → f ≡ laneTold (REPLIES + 27) 13 e
+          → Taken (set xs REPLIES-HELD 0) f 0
       replies-taken {f = f} t c d e q =
           let lane : ℕ → Reply.Answer Reading = λ (i : ℕ). laneAt (at xs) i .reply in
           let r : ℕ → List ℕ = λ (i : ℕ). replySlots (lane i) in
           let one : Begins 1 (1 ∷ []) (set out 0 1) = record { first = filled-to (1 ∷ []) out 0 (omega arith); size = length-set out 0 1 ∙ l } in
           let all = lane-told (lane 3) (lane-told (lane 2) (lane-told (lane 1) (lane-told (lane 0) one (omega arith) c) (omega arith) d) (omega arith) e) (omega arith) q in
-          taken-so t (moves-write ((HELD holds 0) ∷ []) xs n refl refl (λ w. ((w .0 .0, w .0 .1, w .0 .2, w .0 .3, w .0 .4, refl), w .1)))
+          taken-so t (moves-write ((REPLIES-HELD holds 0) ∷ []) xs n refl refl (λ w. ((w .0 .0, w .0 .1, w .0 .2, w .0 .3, w .0 .4, refl), w .1)))
           (sym (take-all 17 f (omega (arith, all .size)))
           ∙ all .first
           ∙ ap (λ (u : List ℕ). 1 ∷ u) (append-assoc (r 0 ++ r 1) (r 2) (r 3) ∙ append-assoc (r 0) (r 1) (r 2 ++ r 3)))

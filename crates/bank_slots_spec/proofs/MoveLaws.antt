@@ -9,7 +9,8 @@ use Rattle.dshot_bank_spec.specs.State.{Stats, Core, Bank}
 use Rattle.dshot_bank_spec.specs.With.{withStats}
 use Rattle.dshot_bank_spec.specs.Replies.{wrappingAdd}
 use Rattle.bank_slots_spec.specs.Memory.{Row, at, write, over, within, word, wordRows}
-use Rattle.bank_slots_spec.specs.Layout.{slots, statsAt, bankAt, load}
+use Rattle.bank_slots_spec.specs.Places.{slots}
+use Rattle.bank_slots_spec.specs.Load.{statsAt, bankAt, load}
 use Rattle.bank_slots_spec.specs.Written.{WrittenAt, Written}
 use Rattle.bank_slots_spec.specs.Moves.{Moves, onCore}
 use Rattle.bank_slots_spec.specs.Parts.{bumped}

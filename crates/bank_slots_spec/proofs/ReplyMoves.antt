@@ -21,10 +21,13 @@ use Rattle.dshot_bank_spec.specs.Replies.{window, readWindow, countReply, decod
 use Rattle.dshot_bank_spec.specs.Service.{repliesRead, readReplies}
 use Rattle.dshot_bank_spec.proofs.LaneLaws.{on, off, either}
 use Rattle.bank_slots_spec.specs.Memory.{Row, _holds_, at, write, over, within}
-use Rattle.bank_slots_spec.specs.Layout.{slots, bankAt, load, flag, reply, replyKind, replyNumber, laneRows, REPLIES, WAITING, HELD}
+use Rattle.bank_slots_spec.specs.Places.{slots, REPLIES, REPLIES-WAITING, REPLIES-HELD}
+use Rattle.bank_slots_spec.specs.Load.{bankAt, load, flag, reply}
+use Rattle.bank_slots_spec.specs.Store.{replyKind, replyNumber, laneRows}
 use Rattle.bank_slots_spec.specs.Written.{isReply, ReplyFits, WrittenAt}
 use Rattle.bank_slots_spec.specs.Moves.{Moves, onCore}
-use Rattle.bank_slots_spec.specs.Parts.{laneFrom, withReplies, windowsRead}
+use Rattle.bank_slots_spec.specs.Load.{laneFrom}
+use Rattle.bank_slots_spec.specs.Parts.{withReplies, windowsRead}
 use Rattle.bank_slots_spec.specs.Outs.{present, masks}
 use Rattle.bank_slots_spec.proofs.MemoryLaws.{length-write, word-back}
 use Rattle.bank_slots_spec.proofs.MoveLaws.{moves-write, moves-then, moves-as, moves-at, stays}
@@ -174,7 +177,7 @@ module _ (lanes samples : List ℕ) where
 -- ---- the windows, where they wait
 
 abbrev heldRows : List Row
-heldRows = (WAITING holds 0) ∷ (HELD holds 1) ∷ []
+heldRows = (REPLIES-WAITING holds 0) ∷ (REPLIES-HELD holds 1) ∷ []
 
 abbrev repliesHeld : Core → Core
 repliesHeld c = withFrame (withRepliesHeld true (withRepliesWaiting false (c .frame))) c
@@ -186,7 +189,7 @@ module _ (lanes samples : List ℕ) (xs : List ℕ) where
   abbrev Reads : List ℕ → Type 0
   Reads ys = Moves (windowsRead (present lanes) (masks lanes) samples) xs ys
 
-  pub none-waits : flag (at xs WAITING) ≡ false → Reads xs
+  pub none-waits : flag (at xs REPLIES-WAITING) ≡ false → Reads xs
   unfolding load repliesRead readReplies
   none-waits h =
       let c = load xs .core in
@@ -194,7 +197,7 @@ module _ (lanes samples : List ℕ) (xs : List ℕ) where
       let two : load xs .replies ≡ readReplies 4 (c .frame .repliesWaiting) (present lanes) (masks lanes) samples (load xs .replies) = off _ _ h refl in
       stays (λ j. record { core = one j; replies = two j })
 
-  pub windows-read : {ys : List ℕ} → length ys ≡ slots → flag (at xs WAITING) ≡ true
+  pub windows-read : {ys : List ℕ} → length ys ≡ slots → flag (at xs REPLIES-WAITING) ≡ true
       → Moves (λ (b : Bank). withReplies (decodeReplies 4 (present lanes) (masks lanes) samples (b .replies)) b) xs ys → Reads (write heldRows ys)
   unfolding load repliesRead readReplies
   windows-read {ys} n h m =

@@ -26,7 +26,9 @@ use Rattle.dshot_bank_spec.specs.Service.{frame-started, lease-expired, faulted
 use Rattle.dshot_bank_spec.specs.Calls.{buffersFit}
 use Rattle.dshot_bank_spec.proofs.LaneLaws.{on, off, under}
 use Rattle.bank_slots_spec.specs.Memory.{Row, _holds_, at, write, over, within, word, wordRows, longRows}
-use Rattle.bank_slots_spec.specs.Layout.{slots, VALUES, REQUEST, SENT, RUN, BUSY, IN-SECOND, COMPLETION, STARTED, FRAMES-STARTED, flag, bit, choice, sequenceAt, bankAt, load}
+use Rattle.bank_slots_spec.specs.Places.{slots, VALUES, REQUEST, REQUEST-SENT, RUN, BUSY, IN-SECOND, COMPLETION-MASK, STARTED, FRAMES-STARTED}
+use Rattle.bank_slots_spec.specs.Load.{flag, choice, sequenceAt, bankAt, load}
+use Rattle.bank_slots_spec.specs.Store.{bit}
 use Rattle.bank_slots_spec.specs.Written.{WrittenAt}
 use Rattle.bank_slots_spec.specs.Moves.{Moves, onCore}
 use Rattle.bank_slots_spec.specs.Parts.{bumped, runStepped, marksTurned, carriedBy, requestCarried, inFlight}
@@ -202,11 +204,11 @@ abbrev flown : ℕ → Core → Core
 flown now c = withFrame (withBusy true (withCompletionMask 0 (withStartedMs now (c .frame)))) c
 
 abbrev flownRows : ℕ → List Row
-flownRows now = longRows STARTED now ++ (wordRows COMPLETION 0 ++ ((BUSY holds 1) ∷ []))
+flownRows now = longRows STARTED now ++ (wordRows COMPLETION-MASK 0 ++ ((BUSY holds 1) ∷ []))
 
-module _ (xs : List ℕ) (n : length xs ≡ slots) (now : ℕ) {us vs : List ℕ} (e : us ≡ write (longRows STARTED now) xs) (f : vs ≡ write (wordRows COMPLETION 0) us) where
+module _ (xs : List ℕ) (n : length xs ≡ slots) (now : ℕ) {us vs : List ℕ} (e : us ≡ write (longRows STARTED now) xs) (f : vs ≡ write (wordRows COMPLETION-MASK 0) us) where
   flown-rows : write ((BUSY holds 1) ∷ []) vs ≡ write (flownRows now) xs
-  flown-rows = ap (write ((BUSY holds 1) ∷ [])) (f ∙ ap (write (wordRows COMPLETION 0)) e)
+  flown-rows = ap (write ((BUSY holds 1) ∷ [])) (f ∙ ap (write (wordRows COMPLETION-MASK 0)) e)
 
   pub flown-length : length (write ((BUSY holds 1) ∷ []) vs) ≡ slots
   flown-length = ap length flown-rows ∙ length-write (flownRows now) xs ∙ n
@@ -228,7 +230,7 @@ module _ (xs : List ℕ) (n : length xs ≡ slots) (now : ℕ) {us vs : List ℕ
 
 -- a request that is carried
 abbrev carriedRows : ℕ → List Row
-carriedRows request = (REQUEST holds 0) ∷ (SENT holds request) ∷ []
+carriedRows request = (REQUEST holds 0) ∷ (REQUEST-SENT holds request) ∷ []
 
 module _ (xs : List ℕ) (n : length xs ≡ slots) where
   -- a special command's frame carries none

@@ -23,10 +23,11 @@ use Rattle.dshot_bank_spec.specs.Calls.{Call, service-call, refused, State, Ste
 use Rattle.dshot_bank_spec.proofs.LaneLaws.{on, off}
 use Rattle.bank_slots_spec.specs.Memory.{at}
 use Rattle.bank_slots_spec.specs.Memory as Memory
-use Rattle.bank_slots_spec.specs.Layout.{slots, load, flag, LEASE-STARTED, LEASE-OVER, BUSY, FAULTED, STARTED, BUSY-SKIPS, LEASE-EXPIRIES, FRAME-TIMEOUTS}
+use Rattle.bank_slots_spec.specs.Places.{slots, LEASE-STARTED, LEASE-OVER, BUSY, FAULTED, STARTED, BUSY-SKIPS, LEASE-EXPIRIES, FRAME-TIMEOUTS}
+use Rattle.bank_slots_spec.specs.Load.{load, flag}
 use Rattle.bank_slots_spec.specs.Moves.{Moves, onCore}
 use Rattle.bank_slots_spec.specs.Parts.{bumped, windowsRead}
-use Rattle.bank_slots_spec.specs.Called.{Called, fit, long, number, stateAt, answerOf, buffersAfter}
+use Rattle.bank_slots_spec.specs.Called.{Called, fit, sized, number, stateAt, answerOf, buffersAfter}
 use Rattle.bank_slots_spec.specs.Outs.{serviceSlots, taken, present, masks, outAfter}
 use Rattle.bank_slots_spec.specs.Handles.{Skips, Serves}
 use Rattle.bank_slots_spec.proofs.MoveLaws.{moves-then, moves-as, moves-at, stays, counted}
@@ -198,7 +199,7 @@ module _ (now : ℕ) (lanes samples first second xs out : List ℕ) where
 
   -- whether the two other slices have their lengths
   abbrev others : Bool
-  others = if long 12 lanes then long 15 out else false
+  others = if sized 12 lanes then sized 15 out else false
 
   abbrev fits : Bool
   fits = fit xs others

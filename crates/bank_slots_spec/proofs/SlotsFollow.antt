@@ -14,8 +14,9 @@ use Rattle.dshot_bank_spec.specs.Calls.{enable-bidirectional, service-call, Sta
 use Rattle.dshot_bank_spec.specs.Lists.{hideState, run, fresh}
 use Rattle.dshot_bank_spec.proofs.Storing.{stores}
 use Rattle.dshot_bank_spec.proofs.Decoding.{decodes}
-use Rattle.bank_slots_spec.specs.Layout.{load, store}
-use Rattle.bank_slots_spec.specs.Written.{Fits}
+use Rattle.bank_slots_spec.specs.Load.{load}
+use Rattle.bank_slots_spec.specs.Store.{store}
+use Rattle.bank_slots_spec.specs.Written.{Storable}
 use Rattle.bank_slots_spec.specs.Called.{Called, stateAt, bankAfter, buffersAfter}
 use Rattle.bank_slots_spec.specs.SlotLists.{Made, made, madeTrace, madeRun, fitting, Shown, Ran, none-left, one-more, leaves, MadeAlike, both-end, both-more}
 use Rattle.bank_slots_spec.specs.SlotClaims.{SameSlots, no-state, one-state, SlotsFollow, SlotsStores}
@@ -30,7 +31,7 @@ use Rattle.bank_slots_spec.proofs.SlotsIsolated.{as-made, made-alike, l
 abbrev stored : List Stepped → List (List ℕ)
 stored = map (λ (r : Stepped). store (r .state .bank))
 
-follow-from : (bank : Bank) → Fits bank → {xs : List ℕ} {b : Buffers} {ms : List Made} {rs : List Shown} → xs ≡ store bank → (p : Ran xs b ms rs)
+follow-from : (bank : Bank) → Storable bank → {xs : List ℕ} {b : Buffers} {ms : List Made} {rs : List Shown} → xs ≡ store bank → (p : Ran xs b ms rs)
     → leaves p ≡ stored (madeTrace (record { bank = bank; buffers = b }) ms)
 follow-from bank f e none-left = refl
 follow-from bank f {xs} {b} e (one-more {ys = ys} {b′ = b′} {m = m} {ms = ms} {r = r} c d o n w rest) =
@@ -45,7 +46,7 @@ follow-from bank f {xs} {b} e (one-more {ys = ys} {b′ = b′} {m = m} {ms = ms
     ∙ ap (λ (x : Buffers). store next ∷ stored (madeTrace (record { bank = next; buffers = x }) ms)) d′
     ∙ ap (λ (t : Stepped). store (t .state .bank) ∷ stored (madeTrace (t .state) ms)) (as-made (m .fits) (m .call) (m .out) s)
 
-follow : (bank : Bank) → Fits bank → {b : Buffers} {ms : List Made} {rs : List Shown} (p : Ran (store bank) b ms rs)
+follow : (bank : Bank) → Storable bank → {b : Buffers} {ms : List Made} {rs : List Shown} (p : Ran (store bank) b ms rs)
     → leaves p ≡ stored (madeTrace (record { bank = bank; buffers = b }) ms)
 follow bank f p = follow-from bank f refl p
 
@@ -60,7 +61,7 @@ slots-alike lane (both-more {fits = fits} {out = out} {c = c} {c′ = c′} a re
     let h = ap (λ (t : Stepped). t .state) (made-alike lane fits out a s s′ e) in
     one-state (same-slots lane (r .state .bank) (r′ .state .bank) (ap (λ (t : State). t .bank) h)) (slots-alike lane rest (r .state) (r′ .state) h)
 
-same : (lane : ℕ) (bank : Bank) → Fits bank → {b : Buffers} {ms ms′ : List Made} {rs rs′ : List Shown} → MadeAlike lane ms ms′
+same : (lane : ℕ) (bank : Bank) → Storable bank → {b : Buffers} {ms ms′ : List Made} {rs rs′ : List Shown} → MadeAlike lane ms ms′
     → (p : Ran (store bank) b ms rs) (q : Ran (store bank) b ms′ rs′) → SameSlots lane (leaves p) (leaves q)
 same lane bank f {b} {ms} {ms′} a p q =
     let s : State = record { bank = bank; buffers = b } in

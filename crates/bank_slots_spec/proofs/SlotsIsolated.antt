@@ -13,7 +13,7 @@ use Rattle.dshot_bank_spec.specs.Calls.{Call, enable-bidirectional, command-sto
 use Rattle.dshot_bank_spec.specs.Lists.{Alike, hide, hideAnswer, hideState, isLook, run, trace}
 use Rattle.dshot_bank_spec.proofs.Isolation.{step-alike}
 use Rattle.dshot_bank_spec.proofs.Refusals.{either-step, looks-keep}
-use Rattle.bank_slots_spec.specs.Layout.{load}
+use Rattle.bank_slots_spec.specs.Load.{load}
 use Rattle.bank_slots_spec.specs.Called.{Called, number, stateAt, answerOf, bankAfter, buffersAfter}
 use Rattle.bank_slots_spec.specs.Outs.{outAfter}
 use Rattle.bank_slots_spec.proofs.HiddenSlots.{same-number, same-told}

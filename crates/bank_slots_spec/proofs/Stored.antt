@@ -14,8 +14,10 @@ use Rattle.dshot_bank_spec.specs.State.{LaneReply, Bank}
 use Rattle.dshot_spec.specs.Timing.{Timing}
 use Rattle.dshot_bank_spec.specs.Commands.{noReplies, fromLanes}
 use Rattle.bank_slots_spec.specs.Memory.{at, write, over, within, word, long, wordRows, longRows}
-use Rattle.bank_slots_spec.specs.Layout.{slots, LEASE-STARTED, LEASE-OVER, REQUEST, SENT, RUN, BUSY, FAULTED, BIDIRECTIONAL, RECEIVING, WAITING, HELD, IN-SECOND, COMPLETION, STARTED, FRAMES-STARTED, FRAMES-COMPLETED, BUSY-SKIPS, LEASE-EXPIRIES, FRAME-TIMEOUTS, DMA-FAULTS, SPURIOUS, LANE-COMPLETIONS, REPLIES, flag, reply, four, demandAt, telemetryAt, runAt, frameAt, statsAt, coreAt, laneAt, bankAt, load, bit, replyKind, replyNumber, demandRows, telemetryRows, runRows, frameRows, statsRows, coreRows, laneRows, repliesRows, bankRows, store}
-use Rattle.bank_slots_spec.specs.Written.{isReply, FlagsWritten, MarksWritten, RequestsWritten, ReplyWritten, RepliesWritten, WrittenAt, Written, Below, ReplyFits, Fits}
+use Rattle.bank_slots_spec.specs.Places.{slots, LEASE-STARTED, LEASE-OVER, REQUEST, REQUEST-SENT, RUN, BUSY, FAULTED, BIDIRECTIONAL, RECEIVING, REPLIES-WAITING, REPLIES-HELD, IN-SECOND, COMPLETION-MASK, STARTED, FRAMES-STARTED, FRAMES-COMPLETED, BUSY-SKIPS, LEASE-EXPIRIES, FRAME-TIMEOUTS, DMA-FAULTS, SPURIOUS, LANE-COMPLETIONS, REPLIES}
+use Rattle.bank_slots_spec.specs.Load.{flag, reply, four, demandAt, telemetryAt, runAt, frameAt, statsAt, coreAt, laneAt, bankAt, load}
+use Rattle.bank_slots_spec.specs.Store.{bit, replyKind, replyNumber, demandRows, telemetryRows, runRows, frameRows, statsRows, coreRows, laneRows, repliesRows, bankRows, store}
+use Rattle.bank_slots_spec.specs.Written.{isReply, FlagsWritten, MarksWritten, RequestsWritten, ReplyWritten, RepliesWritten, WrittenAt, Written, Below, ReplyFits, Storable}
 use Rattle.bank_slots_spec.specs.Moves.{Moves}
 use Rattle.bank_slots_spec.proofs.MemoryLaws.{at-write, length-write, Agrees, nil, row, agrees-append, write-agrees, word-back}
 use Rattle.bank_slots_spec.proofs.FillLaws.{tabulated}
@@ -59,7 +61,7 @@ lane-back l h =
 lanes-back : (l : List LaneReply) → length l ≡ 4 → ((i : ℕ) → ReplyFits (getD l i noReplies .reply)) → four (λ (i : ℕ). laneOf (getD l i noReplies)) ≡ l
 lanes-back l h f = (λ j. four (λ (i : ℕ). lane-back (getD l i noReplies) (f i) j)) ∙ four-back noReplies l h
 
-pub load-store : (b : Bank) → Fits b → load (store b) ≡ b
+pub load-store : (b : Bank) → Storable b → load (store b) ≡ b
 unfolding load
 load-store b h = ap bankAt (at-store b) ∙ λ j. record {
   core = record {
@@ -101,7 +103,7 @@ load-store b h = ap bankAt (at-store b) ∙ λ j. record {
 
 -- ---- a new bank fits
 
-pub new-fits : (timing : Timing) → Fits (fromLanes 4 timing)
+pub new-fits : (timing : Timing) → Storable (fromLanes 4 timing)
 unfolding fromLanes
 new-fits timing = record {
   values = refl;
@@ -129,7 +131,7 @@ new-fits timing = record {
 number-written : (a : Answer Reading) → ReplyFits a → isReply (replyKind a) (wordOf (replyNumber a)) ≡ true
 number-written a h = ap (isReply (replyKind a)) (word-back (replyNumber a)) ∙ reply-written a h
 
-module _ (b : Bank) (h : Fits b) where
+module _ (b : Bank) (h : Storable b) where
   -- what the slots hold
   abbrev held : ℕ → ℕ
   held = over (bankRows b) (at (replicate slots 0))
@@ -158,14 +160,14 @@ module _ (b : Bank) (h : Fits b) where
 
 -- ---- what is read fits
 
-pub loads-fit : (xs : List ℕ) → Below xs → Fits (load xs)
+pub loads-fit : (xs : List ℕ) → Below xs → Storable (load xs)
 unfolding load
 loads-fit xs low = record {
   values = refl;
   leaseStarted = long-fits LEASE-STARTED (at xs) low;
   leaseDuration = lease-fits (long LEASE-OVER (at xs)) (long-fits LEASE-OVER (at xs) low);
   request = choice-fits (at xs REQUEST);
-  sent = choice-fits (at xs SENT);
+  sent = choice-fits (at xs REQUEST-SENT);
   run = run-fits (at xs RUN) (at xs (RUN + 1)) (at xs (RUN + 2)) (at xs (RUN + 3)) (at xs (RUN + 4));
   started = long-fits STARTED (at xs) low;
   marks = refl;
@@ -197,7 +199,7 @@ module _ (m : ℕ → ℕ) (low : (i : ℕ) → m i < 65536) where
       (subst (λ (n : ℕ). Agrees m (longRows LEASE-OVER n)) (lease-kept (long LEASE-OVER m)) (long-agrees LEASE-OVER))))))
 
   telemetry-agrees : RequestsWritten m → Agrees m (telemetryRows (telemetryAt m))
-  telemetry-agrees w = row (choice-kept (m REQUEST) (w .0)) (row (choice-kept (m SENT) (w .1)) nil)
+  telemetry-agrees w = row (choice-kept (m REQUEST) (w .0)) (row (choice-kept (m REQUEST-SENT) (w .1)) nil)
 
   run-agrees : RequestsWritten m → Agrees m (runRows (runAt m))
   run-agrees w =
@@ -210,13 +212,13 @@ module _ (m : ℕ → ℕ) (low : (i : ℕ) → m i < 65536) where
       (row (flag-kept (m FAULTED) (f .1))
       (row (flag-kept (m BIDIRECTIONAL) (f .2))
       (row (flag-kept (m RECEIVING) (f .3))
-      (row (flag-kept (m WAITING) (f .4))
-      (row (flag-kept (m HELD) (f .5))
+      (row (flag-kept (m REPLIES-WAITING) (f .4))
+      (row (flag-kept (m REPLIES-HELD) (f .5))
       (row (flag-kept (m IN-SECOND) (w .0))
       (row (flag-kept (m (IN-SECOND + 1)) (w .1))
       (row (flag-kept (m (IN-SECOND + 2)) (w .2))
       (row (flag-kept (m (IN-SECOND + 3)) (w .3))
-      (agrees-append _ (word-agrees COMPLETION) (long-agrees STARTED)))))))))))
+      (agrees-append _ (word-agrees COMPLETION-MASK) (long-agrees STARTED)))))))))))
 
   stats-agree : Agrees m (statsRows (statsAt m))
   stats-agree =
@@ -273,5 +275,5 @@ written-stored xs n low w =
     b = bankAt (at xs)
 
 -- what a step leaves of slots that the library wrote is what it writes for the bank after the step
-pub stored-moves : {f : Bank → Bank} (b : Bank) (ys : List ℕ) → Fits b → Moves f (store b) ys → length ys ≡ slots → Below ys → ys ≡ store (f b)
+pub stored-moves : {f : Bank → Bank} (b : Bank) (ys : List ℕ) → Storable b → Moves f (store b) ys → length ys ≡ slots → Below ys → ys ≡ store (f b)
 stored-moves {f} b ys h p n low = written-stored ys n low (p .keeps (store-written b h)) ∙ ap store (p .loads ∙ ap f (load-store b h))

@@ -12,17 +12,17 @@ use Rattle.dshot_reply_spec.specs.Answer.{pick, wrongLength}
 use Rattle.dshot_bank_spec.specs.Lanes.{if_then_else_}
 use Rattle.dshot_bank_spec.specs.State.{Bank, Buffers}
 use Rattle.dshot_bank_spec.specs.Calls.{Call, Answer, done, refused, motor-sent, serviced, interrupted, replied, flag, counts, values, reply-counts, slots, State, step}
-use Rattle.bank_slots_spec.specs.Layout.{load}
-use Rattle.bank_slots_spec.specs.Layout as Layout
+use Rattle.bank_slots_spec.specs.Load.{load}
+use Rattle.bank_slots_spec.specs.Places as Places
 use Rattle.bank_slots_spec.specs.Written.{Written}
 
 -- whether a slice has as many slots as it should
-abbrev pub long : ℕ → List ℕ → Bool
-long n xs = eqb (length xs) n
+abbrev pub sized : ℕ → List ℕ → Bool
+sized n xs = eqb (length xs) n
 
 -- whether the state has, and whatever else is asked for
 abbrev pub fit : List ℕ → Bool → Bool
-fit xs others = if long Layout.slots xs then others else false
+fit xs others = if sized Places.slots xs then others else false
 
 -- the bank in the slots, with the two lent buffers
 abbrev pub stateAt : List ℕ → Buffers → State

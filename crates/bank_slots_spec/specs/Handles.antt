@@ -6,7 +6,7 @@ use mathlib.Core.List.{List}
 use Rattle.dshot_bank_spec.specs.State.{Core, Bank, Buffers}
 use Rattle.dshot_bank_spec.specs.Interrupt.{Interrupted}
 use Rattle.dshot_bank_spec.specs.Service.{Served, Skipped}
-use Rattle.bank_slots_spec.specs.Layout.{load}
+use Rattle.bank_slots_spec.specs.Load.{load}
 use Rattle.bank_slots_spec.specs.Moves.{Moves, onCore}
 use Rattle.bank_slots_spec.specs.Outs.{interruptSlots, serviceSlots}
 

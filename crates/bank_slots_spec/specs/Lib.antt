@@ -1,5 +1,7 @@
 pub mod Memory
-pub mod Layout
+pub mod Places
+pub mod Load
+pub mod Store
 pub mod Written
 pub mod Moves
 pub mod Called

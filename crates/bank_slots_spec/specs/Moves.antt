@@ -5,7 +5,7 @@ use mathlib.Core.Path.{_≡_}
 use mathlib.Core.List.{List}
 use Rattle.dshot_bank_spec.specs.State.{Core, Bank}
 use Rattle.dshot_bank_spec.specs.With.{withCore}
-use Rattle.bank_slots_spec.specs.Layout.{load}
+use Rattle.bank_slots_spec.specs.Load.{load}
 use Rattle.bank_slots_spec.specs.Written.{Written}
 
 -- a step on the core

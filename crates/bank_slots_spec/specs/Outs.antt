@@ -21,7 +21,8 @@ use Rattle.dshot_bank_spec.specs.Interrupt.{InterruptEvent}
 use Rattle.dshot_bank_spec.specs.Interrupt as Interrupt
 use Rattle.dshot_bank_spec.specs.Calls.{Answer, done, motor-sent, serviced, interrupted, replied, counts, values, reply-counts, slots, ReplyStats}
 use Rattle.dshot_bank_spec.specs.Calls as Call
-use Rattle.bank_slots_spec.specs.Layout.{flag, bit, four, fourLists, choiceSlot, replyKind, replyNumber}
+use Rattle.bank_slots_spec.specs.Load.{flag, four, fourLists}
+use Rattle.bank_slots_spec.specs.Store.{bit, choiceSlot, replyKind, replyNumber}
 use Rattle.bank_slots_spec.specs.Called.{number}
 
 -- ---- events and orders
@@ -84,9 +85,9 @@ replySlots (given r) = 0 ∷ kindNumber r ∷ wordSlots (readingNumber r)
 replySlots (refused n) = n ∷ 0 ∷ 0 ∷ 0 ∷ []
 
 -- 1 and the replies of the four lanes, or zeros where none are held
-abbrev pub takenSlots : Option (List (Reply.Answer Reading)) → List ℕ
-takenSlots none = replicate 17 0
-takenSlots (some l) = 1 ∷ fourLists (λ (i : ℕ). replySlots (getD l i (refused noReply)))
+abbrev pub repliesSlots : Option (List (Reply.Answer Reading)) → List ℕ
+repliesSlots none = replicate 17 0
+repliesSlots (some l) = 1 ∷ fourLists (λ (i : ℕ). replySlots (getD l i (refused noReply)))
 
 -- an answer in slots
 abbrev pub slotsOf : Answer → List ℕ
@@ -95,7 +96,7 @@ slotsOf (Call.refused n) = []
 slotsOf (motor-sent m) = motorSlots m
 slotsOf (serviced e l) = serviceSlots e l
 slotsOf (interrupted e l) = interruptSlots e l
-slotsOf (replied r) = takenSlots r
+slotsOf (replied r) = repliesSlots r
 slotsOf (Call.flag b) = bit b ∷ []
 slotsOf (counts s) = countSlots s
 slotsOf (values v) = v

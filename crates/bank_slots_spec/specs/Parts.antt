@@ -13,7 +13,7 @@ use Rattle.dshot_bank_spec.specs.Commands.{nextCommandFrame}
 use Rattle.dshot_bank_spec.specs.Service.{repliesRead, readReplies}
 use Rattle.dshot_bank_spec.specs.Send.{countFault, turnMarks, carry}
 use Rattle.dshot_reply_spec.specs.Answer.{pick}
-use Rattle.bank_slots_spec.specs.Layout.{reply}
+use Rattle.bank_slots_spec.specs.Load.{reply}
 use Rattle.bank_slots_spec.specs.Memory.{Row, _holds_, at, write, word, wordRows}
 
 -- one more in the count at slot k
@@ -42,10 +42,6 @@ abbrev pub queued : ℕ → CommandRun → Core → Core
 queued motor sequence c = withCommandSequence (some (record { motor = motor; sequence = sequence })) c
 
 -- ---- replies
-
--- a lane's record in the nine slots from slot k
-abbrev pub laneFrom : ℕ → (ℕ → ℕ) → LaneReply
-laneFrom k m = record { reply = reply (m k) (word (k + 1) m); valid = word (k + 3) m; invalid = word (k + 5) m; consecutiveInvalid = word (k + 7) m }
 
 abbrev pub withReplies : List LaneReply → Bank → Bank
 withReplies l b = record { core = b .core; replies = l }

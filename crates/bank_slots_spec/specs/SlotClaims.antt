@@ -12,8 +12,10 @@ use Rattle.dshot_bank_spec.specs.Calls.{Call, enable-bidirectional, service-cal
 use Rattle.dshot_bank_spec.specs.Lists.{hide, run, trace, fresh}
 use Rattle.dshot_bank_spec.specs.Claims.{fits, reads, before, served, Stored, Decoded}
 use Rattle.bank_slots_spec.specs.Memory.{at}
-use Rattle.bank_slots_spec.specs.Layout.{REPLIES, load, store}
-use Rattle.bank_slots_spec.specs.Written.{Fits}
+use Rattle.bank_slots_spec.specs.Places.{REPLIES}
+use Rattle.bank_slots_spec.specs.Load.{load}
+use Rattle.bank_slots_spec.specs.Store.{store}
+use Rattle.bank_slots_spec.specs.Written.{Storable}
 use Rattle.bank_slots_spec.specs.Called.{Called, stateAt}
 use Rattle.bank_slots_spec.specs.SlotLists.{Made, made, madeTrace, madeRun, Shown, shownAll, Ran, leaves, fitting, fittingOf, actingMade, actingMadeOf, MadeAlike}
 
@@ -73,13 +75,13 @@ pub record SlotsIsolated : Type 0 where
 
 pub record SlotsFollow : Type 0 where
   -- every slot after each call is the one that is written for the bank after it
-  pub follow : (bank : Bank) → Fits bank → {b : Buffers} {ms : List Made} {rs : List Shown} (p : Ran (store bank) b ms rs)
+  pub follow : (bank : Bank) → Storable bank → {b : Buffers} {ms : List Made} {rs : List Shown} (p : Ran (store bank) b ms rs)
       → leaves p ≡ map (λ (r : Stepped). store (r .state .bank)) (madeTrace (record { bank = bank; buffers = b }) ms)
   -- of two lists alike but in one lane's captures, every slot but the nine of that lane's reply and reply counts
-  pub same : (lane : ℕ) (bank : Bank) → Fits bank → {b : Buffers} {ms ms′ : List Made} {rs rs′ : List Shown} → MadeAlike lane ms ms′
+  pub same : (lane : ℕ) (bank : Bank) → Storable bank → {b : Buffers} {ms ms′ : List Made} {rs rs′ : List Shown} → MadeAlike lane ms ms′
       → (p : Ran (store bank) b ms rs) (q : Ran (store bank) b ms′ rs′) → SameSlots lane (leaves p) (leaves q)
   -- a new bank's slots, with the call that sets it to bidirectional, hold the bank at which demand 3's lists start
-  pub new : (timing : Timing) → Fits (fromLanes 4 timing)
+  pub new : (timing : Timing) → Storable (fromLanes 4 timing)
   pub begins : (timing : Timing) (b : Buffers) (ys : List ℕ) → Called true (enable-bidirectional true) b (store (fromLanes 4 timing)) ys 0
       → stateAt ys b ≡ fresh 4 timing b
 

@@ -14,7 +14,7 @@ use Rattle.dshot_spec.specs.Command.{CommandRun}
 use Rattle.dshot_bank_spec.specs.State.{Demand, MotorRun, Frame, Stats, LaneReply, Bank}
 use Rattle.dshot_bank_spec.specs.Commands.{noReplies}
 use Rattle.bank_slots_spec.specs.Memory.{at, word}
-use Rattle.bank_slots_spec.specs.Layout.{BUSY, FAULTED, BIDIRECTIONAL, RECEIVING, WAITING, HELD, IN-SECOND, REQUEST, SENT, RUN, REPLIES}
+use Rattle.bank_slots_spec.specs.Places.{BUSY, FAULTED, BIDIRECTIONAL, RECEIVING, REPLIES-WAITING, REPLIES-HELD, IN-SECOND, REQUEST, REQUEST-SENT, RUN, REPLIES}
 
 -- ---- what is written: only these slots can hold what the library never writes
 
@@ -45,8 +45,8 @@ module _ (m : ℕ → ℕ) where
       × (isFlag (m FAULTED) ≡ true)
       × (isFlag (m BIDIRECTIONAL) ≡ true)
       × (isFlag (m RECEIVING) ≡ true)
-      × (isFlag (m WAITING) ≡ true)
-      × (isFlag (m HELD) ≡ true)
+      × (isFlag (m REPLIES-WAITING) ≡ true)
+      × (isFlag (m REPLIES-HELD) ≡ true)
 
   abbrev pub MarksWritten : Type 0
   MarksWritten =
@@ -58,7 +58,7 @@ module _ (m : ℕ → ℕ) where
   abbrev pub RequestsWritten : Type 0
   RequestsWritten =
       (isChoice (m REQUEST) ≡ true)
-      × (isChoice (m SENT) ≡ true)
+      × (isChoice (m REQUEST-SENT) ≡ true)
       × (isRun (m RUN) (m (RUN + 1)) (m (RUN + 2)) (m (RUN + 3)) (m (RUN + 4)) ≡ true)
 
   abbrev pub ReplyWritten : ℕ → Type 0
@@ -109,7 +109,7 @@ ReplyFits (given edt) = Unit
 ReplyFits (refused number) = (7 ≤ number) × (number ≤ 11)
 
 -- a bank of four lanes that the library's types can hold; numbers of 16 and 32 bits are not bounded here, since they come back whatever they are
-pub record Fits (b : Bank) : Type 0 where
+pub record Storable (b : Bank) : Type 0 where
   pub values : length (b .core .demand .requestedValues) ≡ 4
   pub leaseStarted : b .core .demand .leaseStartedMs < 2 ^ 64
   pub leaseDuration : LeaseFits (b .core .demand .leaseDurationMs)

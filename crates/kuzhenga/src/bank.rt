@@ -16,15 +16,16 @@ ghost use Rattle.dshot_bank_spec.specs.State.{Buffers};
 ghost use Rattle.dshot_bank_spec.specs.Commands.{fromLanes, fallbackReleaseDue};
 ghost use Rattle.dshot_bank_spec.specs.Calls as Call;
 ghost use Rattle.bank_slots_spec.specs.Memory.{at};
-ghost use Rattle.bank_slots_spec.specs.Layout.{timingAt, store};
-ghost use Rattle.bank_slots_spec.specs.Called.{Called, fit, long, stateAt, answerOf, buffersAfter, number};
+ghost use Rattle.bank_slots_spec.specs.Load.{timingAt};
+ghost use Rattle.bank_slots_spec.specs.Store.{store};
+ghost use Rattle.bank_slots_spec.specs.Called.{Called, fit, sized, stateAt, answerOf, buffersAfter, number};
 ghost use Rattle.bank_slots_spec.specs.Outs.{taken, present, masks, outAfter, runGiven};
 
 // A new bank of a timing in four slots: the first lent buffer is current, the second spare.
 #[no_mangle]
 pub extern "C" fn kuzhenga_bank_from_lanes(timing: &[u16], bank: &mut [u16]) -> u32
-    ensures { λ r. ⌜ r ≡ pick (fit (now (bank .entry)) (long 4 (now (timing .entry)))) 0 13 ⌝ }
-    ensures { λ r. ⌜ now (bank .exit) ≡ pick (fit (now (bank .entry)) (long 4 (now (timing .entry)))) (store (fromLanes 4 (timingAt (at (now (timing .entry)))))) (now (bank .entry)) ⌝ }
+    ensures { λ r. ⌜ r ≡ pick (fit (now (bank .entry)) (sized 4 (now (timing .entry)))) 0 13 ⌝ }
+    ensures { λ r. ⌜ now (bank .exit) ≡ pick (fit (now (bank .entry)) (sized 4 (now (timing .entry)))) (store (fromLanes 4 (timingAt (at (now (timing .entry)))))) (now (bank .entry)) ⌝ }
 {
     commands::from_lanes(timing, bank)
 }
@@ -55,8 +56,8 @@ pub extern "C" fn kuzhenga_bank_command_throttles(
     now_ms: u64,
     lease_ms: u32,
 ) -> u32
-    ensures { λ r. ⌜ ((b : Buffers) → r ≡ number (answerOf (fit (now (bank .entry)) (long 4 (now (throttles .entry)))) (stateAt (now (bank .entry)) b) (Call.command-throttles (now (throttles .entry)) «now_ms» «lease_ms»))) ⌝ }
-    ensures { λ r. ⌜ ((b : Buffers) → Called (fit (now (bank .entry)) (long 4 (now (throttles .entry)))) (Call.command-throttles (now (throttles .entry)) «now_ms» «lease_ms») b (now (bank .entry)) (now (bank .exit)) r) ⌝ }
+    ensures { λ r. ⌜ ((b : Buffers) → r ≡ number (answerOf (fit (now (bank .entry)) (sized 4 (now (throttles .entry)))) (stateAt (now (bank .entry)) b) (Call.command-throttles (now (throttles .entry)) «now_ms» «lease_ms»))) ⌝ }
+    ensures { λ r. ⌜ ((b : Buffers) → Called (fit (now (bank .entry)) (sized 4 (now (throttles .entry)))) (Call.command-throttles (now (throttles .entry)) «now_ms» «lease_ms») b (now (bank .entry)) (now (bank .exit)) r) ⌝ }
 {
     commands::command_throttles(bank, throttles, now_ms, lease_ms)
 }
@@ -64,8 +65,8 @@ pub extern "C" fn kuzhenga_bank_command_throttles(
 // Queues a run of special-command frames for one motor: the run in four slots.
 #[no_mangle]
 pub extern "C" fn kuzhenga_bank_command_special(bank: &mut [u16], motor: usize, run: &[u16]) -> u32
-    ensures { λ r. ⌜ ((b : Buffers) → r ≡ number (answerOf (fit (now (bank .entry)) (long 4 (now (run .entry)))) (stateAt (now (bank .entry)) b) (Call.command-special motor (runGiven (now (run .entry)))))) ⌝ }
-    ensures { λ r. ⌜ ((b : Buffers) → Called (fit (now (bank .entry)) (long 4 (now (run .entry)))) (Call.command-special motor (runGiven (now (run .entry)))) b (now (bank .entry)) (now (bank .exit)) r) ⌝ }
+    ensures { λ r. ⌜ ((b : Buffers) → r ≡ number (answerOf (fit (now (bank .entry)) (sized 4 (now (run .entry)))) (stateAt (now (bank .entry)) b) (Call.command-special motor (runGiven (now (run .entry)))))) ⌝ }
+    ensures { λ r. ⌜ ((b : Buffers) → Called (fit (now (bank .entry)) (sized 4 (now (run .entry)))) (Call.command-special motor (runGiven (now (run .entry)))) b (now (bank .entry)) (now (bank .exit)) r) ⌝ }
 {
     commands::command_special(bank, motor, run)
 }
@@ -94,8 +95,8 @@ pub extern "C" fn kuzhenga_bank_take_telemetry_request_sent(
     bank: &mut [u16],
     out: &mut [u16],
 ) -> u32
-    ensures { λ r. ⌜ ((b : Buffers) → Called (fit (now (bank .entry)) (long 2 (now (out .entry)))) (Call.take-telemetry-request-sent) b (now (bank .entry)) (now (bank .exit)) r) ⌝ }
-    ensures { λ r. ⌜ ((b : Buffers) → now (out .exit) ≡ outAfter (answerOf (fit (now (bank .entry)) (long 2 (now (out .entry)))) (stateAt (now (bank .entry)) b) (Call.take-telemetry-request-sent)) (now (out .entry))) ⌝ }
+    ensures { λ r. ⌜ ((b : Buffers) → Called (fit (now (bank .entry)) (sized 2 (now (out .entry)))) (Call.take-telemetry-request-sent) b (now (bank .entry)) (now (bank .exit)) r) ⌝ }
+    ensures { λ r. ⌜ ((b : Buffers) → now (out .exit) ≡ outAfter (answerOf (fit (now (bank .entry)) (sized 2 (now (out .entry)))) (stateAt (now (bank .entry)) b) (Call.take-telemetry-request-sent)) (now (out .entry))) ⌝ }
 {
     commands::take_telemetry_request_sent(bank, out)
 }
@@ -113,9 +114,9 @@ pub extern "C" fn kuzhenga_bank_service(
     captures: &[u16],
     out: &mut [u16],
 ) -> u32
-    ensures { λ r. ⌜ Called (fit (now (bank .entry)) (if long 12 (now (lanes .entry)) then long 15 (now (out .entry)) else false)) (Call.service-call «now_ms» (taken (now (lanes .entry))) (present (now (lanes .entry))) (masks (now (lanes .entry))) (now (captures .entry))) (record { first = now (first .entry); second = now (second .entry) }) (now (bank .entry)) (now (bank .exit)) r ⌝ }
-    ensures { λ r. ⌜ _≡_ {A = Buffers} (record { first = now (first .exit); second = now (second .exit) }) (buffersAfter (fit (now (bank .entry)) (if long 12 (now (lanes .entry)) then long 15 (now (out .entry)) else false)) (stateAt (now (bank .entry)) (record { first = now (first .entry); second = now (second .entry) })) (Call.service-call «now_ms» (taken (now (lanes .entry))) (present (now (lanes .entry))) (masks (now (lanes .entry))) (now (captures .entry)))) ⌝ }
-    ensures { λ r. ⌜ now (out .exit) ≡ outAfter (answerOf (fit (now (bank .entry)) (if long 12 (now (lanes .entry)) then long 15 (now (out .entry)) else false)) (stateAt (now (bank .entry)) (record { first = now (first .entry); second = now (second .entry) })) (Call.service-call «now_ms» (taken (now (lanes .entry))) (present (now (lanes .entry))) (masks (now (lanes .entry))) (now (captures .entry)))) (now (out .entry)) ⌝ }
+    ensures { λ r. ⌜ Called (fit (now (bank .entry)) (if sized 12 (now (lanes .entry)) then sized 15 (now (out .entry)) else false)) (Call.service-call «now_ms» (taken (now (lanes .entry))) (present (now (lanes .entry))) (masks (now (lanes .entry))) (now (captures .entry))) (record { first = now (first .entry); second = now (second .entry) }) (now (bank .entry)) (now (bank .exit)) r ⌝ }
+    ensures { λ r. ⌜ _≡_ {A = Buffers} (record { first = now (first .exit); second = now (second .exit) }) (buffersAfter (fit (now (bank .entry)) (if sized 12 (now (lanes .entry)) then sized 15 (now (out .entry)) else false)) (stateAt (now (bank .entry)) (record { first = now (first .entry); second = now (second .entry) })) (Call.service-call «now_ms» (taken (now (lanes .entry))) (present (now (lanes .entry))) (masks (now (lanes .entry))) (now (captures .entry)))) ⌝ }
+    ensures { λ r. ⌜ now (out .exit) ≡ outAfter (answerOf (fit (now (bank .entry)) (if sized 12 (now (lanes .entry)) then sized 15 (now (out .entry)) else false)) (stateAt (now (bank .entry)) (record { first = now (first .entry); second = now (second .entry) })) (Call.service-call «now_ms» (taken (now (lanes .entry))) (present (now (lanes .entry))) (masks (now (lanes .entry))) (now (captures .entry)))) (now (out .entry)) ⌝ }
 {
     service::service(bank, now_ms, lanes, first, second, captures, out)
 }
@@ -132,8 +133,8 @@ pub extern "C" fn kuzhenga_bank_on_dma_interrupt(
     turned_back: u32,
     out: &mut [u16],
 ) -> u32
-    ensures { λ r. ⌜ ((b : Buffers) → Called (fit (now (bank .entry)) (long 9 (now (out .entry)))) (Call.on-dma-interrupt motor (not (eqb «transfer_complete» 0)) (not (eqb «dma_error» 0)) (not (eqb turned 0)) (not (eqb «turned_back» 0))) b (now (bank .entry)) (now (bank .exit)) r) ⌝ }
-    ensures { λ r. ⌜ ((b : Buffers) → now (out .exit) ≡ outAfter (answerOf (fit (now (bank .entry)) (long 9 (now (out .entry)))) (stateAt (now (bank .entry)) b) (Call.on-dma-interrupt motor (not (eqb «transfer_complete» 0)) (not (eqb «dma_error» 0)) (not (eqb turned 0)) (not (eqb «turned_back» 0)))) (now (out .entry))) ⌝ }
+    ensures { λ r. ⌜ ((b : Buffers) → Called (fit (now (bank .entry)) (sized 9 (now (out .entry)))) (Call.on-dma-interrupt motor (not (eqb «transfer_complete» 0)) (not (eqb «dma_error» 0)) (not (eqb turned 0)) (not (eqb «turned_back» 0))) b (now (bank .entry)) (now (bank .exit)) r) ⌝ }
+    ensures { λ r. ⌜ ((b : Buffers) → now (out .exit) ≡ outAfter (answerOf (fit (now (bank .entry)) (sized 9 (now (out .entry)))) (stateAt (now (bank .entry)) b) (Call.on-dma-interrupt motor (not (eqb «transfer_complete» 0)) (not (eqb «dma_error» 0)) (not (eqb turned 0)) (not (eqb «turned_back» 0)))) (now (out .entry))) ⌝ }
 {
     interrupt::on_dma_interrupt(
         bank,
@@ -149,8 +150,8 @@ pub extern "C" fn kuzhenga_bank_on_dma_interrupt(
 // The replies decoded since the last call, once: 1 and four slots a lane, or zeros where there are none.
 #[no_mangle]
 pub extern "C" fn kuzhenga_bank_take_replies(bank: &mut [u16], out: &mut [u16]) -> u32
-    ensures { λ r. ⌜ ((b : Buffers) → Called (fit (now (bank .entry)) (long 17 (now (out .entry)))) (Call.take-replies) b (now (bank .entry)) (now (bank .exit)) r) ⌝ }
-    ensures { λ r. ⌜ ((b : Buffers) → now (out .exit) ≡ outAfter (answerOf (fit (now (bank .entry)) (long 17 (now (out .entry)))) (stateAt (now (bank .entry)) b) (Call.take-replies)) (now (out .entry))) ⌝ }
+    ensures { λ r. ⌜ ((b : Buffers) → Called (fit (now (bank .entry)) (sized 17 (now (out .entry)))) (Call.take-replies) b (now (bank .entry)) (now (bank .exit)) r) ⌝ }
+    ensures { λ r. ⌜ ((b : Buffers) → now (out .exit) ≡ outAfter (answerOf (fit (now (bank .entry)) (sized 17 (now (out .entry)))) (stateAt (now (bank .entry)) b) (Call.take-replies)) (now (out .entry))) ⌝ }
 {
     looks::take_replies(bank, out)
 }
@@ -158,8 +159,8 @@ pub extern "C" fn kuzhenga_bank_take_replies(bank: &mut [u16], out: &mut [u16]) 
 // 1 in a bank that is bidirectional, else 0.
 #[no_mangle]
 pub extern "C" fn kuzhenga_bank_is_bidirectional(bank: &[u16], out: &mut [u16]) -> u32
-    ensures { λ r. ⌜ ((b : Buffers) → r ≡ number (answerOf (fit (now (bank .entry)) (long 1 (now (out .entry)))) (stateAt (now (bank .entry)) b) (Call.is-bidirectional))) ⌝ }
-    ensures { λ r. ⌜ ((b : Buffers) → now (out .exit) ≡ outAfter (answerOf (fit (now (bank .entry)) (long 1 (now (out .entry)))) (stateAt (now (bank .entry)) b) (Call.is-bidirectional)) (now (out .entry))) ⌝ }
+    ensures { λ r. ⌜ ((b : Buffers) → r ≡ number (answerOf (fit (now (bank .entry)) (sized 1 (now (out .entry)))) (stateAt (now (bank .entry)) b) (Call.is-bidirectional))) ⌝ }
+    ensures { λ r. ⌜ ((b : Buffers) → now (out .exit) ≡ outAfter (answerOf (fit (now (bank .entry)) (sized 1 (now (out .entry)))) (stateAt (now (bank .entry)) b) (Call.is-bidirectional)) (now (out .entry))) ⌝ }
 {
     looks::is_bidirectional(bank, out)
 }
@@ -167,8 +168,8 @@ pub extern "C" fn kuzhenga_bank_is_bidirectional(bank: &[u16], out: &mut [u16]) 
 // 1 in a bank that has latched a fault, else 0.
 #[no_mangle]
 pub extern "C" fn kuzhenga_bank_is_faulted(bank: &[u16], out: &mut [u16]) -> u32
-    ensures { λ r. ⌜ ((b : Buffers) → r ≡ number (answerOf (fit (now (bank .entry)) (long 1 (now (out .entry)))) (stateAt (now (bank .entry)) b) (Call.is-faulted))) ⌝ }
-    ensures { λ r. ⌜ ((b : Buffers) → now (out .exit) ≡ outAfter (answerOf (fit (now (bank .entry)) (long 1 (now (out .entry)))) (stateAt (now (bank .entry)) b) (Call.is-faulted)) (now (out .entry))) ⌝ }
+    ensures { λ r. ⌜ ((b : Buffers) → r ≡ number (answerOf (fit (now (bank .entry)) (sized 1 (now (out .entry)))) (stateAt (now (bank .entry)) b) (Call.is-faulted))) ⌝ }
+    ensures { λ r. ⌜ ((b : Buffers) → now (out .exit) ≡ outAfter (answerOf (fit (now (bank .entry)) (sized 1 (now (out .entry)))) (stateAt (now (bank .entry)) b) (Call.is-faulted)) (now (out .entry))) ⌝ }
 {
     looks::is_faulted(bank, out)
 }
@@ -176,8 +177,8 @@ pub extern "C" fn kuzhenga_bank_is_faulted(bank: &[u16], out: &mut [u16]) -> u32
 // 1 while a special-command run is still being sent, else 0.
 #[no_mangle]
 pub extern "C" fn kuzhenga_bank_command_pending(bank: &[u16], out: &mut [u16]) -> u32
-    ensures { λ r. ⌜ ((b : Buffers) → r ≡ number (answerOf (fit (now (bank .entry)) (long 1 (now (out .entry)))) (stateAt (now (bank .entry)) b) (Call.command-pending))) ⌝ }
-    ensures { λ r. ⌜ ((b : Buffers) → now (out .exit) ≡ outAfter (answerOf (fit (now (bank .entry)) (long 1 (now (out .entry)))) (stateAt (now (bank .entry)) b) (Call.command-pending)) (now (out .entry))) ⌝ }
+    ensures { λ r. ⌜ ((b : Buffers) → r ≡ number (answerOf (fit (now (bank .entry)) (sized 1 (now (out .entry)))) (stateAt (now (bank .entry)) b) (Call.command-pending))) ⌝ }
+    ensures { λ r. ⌜ ((b : Buffers) → now (out .exit) ≡ outAfter (answerOf (fit (now (bank .entry)) (sized 1 (now (out .entry)))) (stateAt (now (bank .entry)) b) (Call.command-pending)) (now (out .entry))) ⌝ }
 {
     looks::command_pending(bank, out)
 }
@@ -185,8 +186,8 @@ pub extern "C" fn kuzhenga_bank_command_pending(bank: &[u16], out: &mut [u16]) -
 // The DShot values that are asked of the four motors.
 #[no_mangle]
 pub extern "C" fn kuzhenga_bank_requested_values(bank: &[u16], out: &mut [u16]) -> u32
-    ensures { λ r. ⌜ ((b : Buffers) → r ≡ number (answerOf (fit (now (bank .entry)) (long 4 (now (out .entry)))) (stateAt (now (bank .entry)) b) (Call.requested-values))) ⌝ }
-    ensures { λ r. ⌜ ((b : Buffers) → now (out .exit) ≡ outAfter (answerOf (fit (now (bank .entry)) (long 4 (now (out .entry)))) (stateAt (now (bank .entry)) b) (Call.requested-values)) (now (out .entry))) ⌝ }
+    ensures { λ r. ⌜ ((b : Buffers) → r ≡ number (answerOf (fit (now (bank .entry)) (sized 4 (now (out .entry)))) (stateAt (now (bank .entry)) b) (Call.requested-values))) ⌝ }
+    ensures { λ r. ⌜ ((b : Buffers) → now (out .exit) ≡ outAfter (answerOf (fit (now (bank .entry)) (sized 4 (now (out .entry)))) (stateAt (now (bank .entry)) b) (Call.requested-values)) (now (out .entry))) ⌝ }
 {
     looks::requested_values(bank, out)
 }
@@ -194,8 +195,8 @@ pub extern "C" fn kuzhenga_bank_requested_values(bank: &[u16], out: &mut [u16]) 
 // Eleven counts of 32 bits, in the order of DshotStats.
 #[no_mangle]
 pub extern "C" fn kuzhenga_bank_stats(bank: &[u16], out: &mut [u16]) -> u32
-    ensures { λ r. ⌜ ((b : Buffers) → r ≡ number (answerOf (fit (now (bank .entry)) (long 22 (now (out .entry)))) (stateAt (now (bank .entry)) b) (Call.stats))) ⌝ }
-    ensures { λ r. ⌜ ((b : Buffers) → now (out .exit) ≡ outAfter (answerOf (fit (now (bank .entry)) (long 22 (now (out .entry)))) (stateAt (now (bank .entry)) b) (Call.stats)) (now (out .entry))) ⌝ }
+    ensures { λ r. ⌜ ((b : Buffers) → r ≡ number (answerOf (fit (now (bank .entry)) (sized 22 (now (out .entry)))) (stateAt (now (bank .entry)) b) (Call.stats))) ⌝ }
+    ensures { λ r. ⌜ ((b : Buffers) → now (out .exit) ≡ outAfter (answerOf (fit (now (bank .entry)) (sized 22 (now (out .entry)))) (stateAt (now (bank .entry)) b) (Call.stats)) (now (out .entry))) ⌝ }
 {
     looks::stats(bank, out)
 }
@@ -203,8 +204,8 @@ pub extern "C" fn kuzhenga_bank_stats(bank: &[u16], out: &mut [u16]) -> u32
 // Each count of the four lanes, twelve of 32 bits, in the order of DshotReplyStats.
 #[no_mangle]
 pub extern "C" fn kuzhenga_bank_reply_stats(bank: &[u16], out: &mut [u16]) -> u32
-    ensures { λ r. ⌜ ((b : Buffers) → r ≡ number (answerOf (fit (now (bank .entry)) (long 24 (now (out .entry)))) (stateAt (now (bank .entry)) b) (Call.reply-stats))) ⌝ }
-    ensures { λ r. ⌜ ((b : Buffers) → now (out .exit) ≡ outAfter (answerOf (fit (now (bank .entry)) (long 24 (now (out .entry)))) (stateAt (now (bank .entry)) b) (Call.reply-stats)) (now (out .entry))) ⌝ }
+    ensures { λ r. ⌜ ((b : Buffers) → r ≡ number (answerOf (fit (now (bank .entry)) (sized 24 (now (out .entry)))) (stateAt (now (bank .entry)) b) (Call.reply-stats))) ⌝ }
+    ensures { λ r. ⌜ ((b : Buffers) → now (out .exit) ≡ outAfter (answerOf (fit (now (bank .entry)) (sized 24 (now (out .entry)))) (stateAt (now (bank .entry)) b) (Call.reply-stats)) (now (out .entry))) ⌝ }
 {
     looks::reply_stats(bank, out)
 }
@@ -218,8 +219,8 @@ pub extern "C" fn kuzhenga_bank_sending(
     motor: usize,
     out: &mut [u16],
 ) -> u32
-    ensures { λ r. ⌜ r ≡ number (answerOf (fit (now (bank .entry)) (long 16 (now (out .entry)))) (stateAt (now (bank .entry)) (record { first = now (first .entry); second = now (second .entry) })) (Call.sending motor)) ⌝ }
-    ensures { λ r. ⌜ now (out .exit) ≡ outAfter (answerOf (fit (now (bank .entry)) (long 16 (now (out .entry)))) (stateAt (now (bank .entry)) (record { first = now (first .entry); second = now (second .entry) })) (Call.sending motor)) (now (out .entry)) ⌝ }
+    ensures { λ r. ⌜ r ≡ number (answerOf (fit (now (bank .entry)) (sized 16 (now (out .entry)))) (stateAt (now (bank .entry)) (record { first = now (first .entry); second = now (second .entry) })) (Call.sending motor)) ⌝ }
+    ensures { λ r. ⌜ now (out .exit) ≡ outAfter (answerOf (fit (now (bank .entry)) (sized 16 (now (out .entry)))) (stateAt (now (bank .entry)) (record { first = now (first .entry); second = now (second .entry) })) (Call.sending motor)) (now (out .entry)) ⌝ }
 {
     looks::sending(bank, first, second, motor, out)
 }

@@ -3,7 +3,7 @@
 use mathlib.Core.Path.{_∙_, sym}
 use Rattle.bank_slots_spec.proofs.CommandCalls.{other-long, special-missing, special-faulted, special-running, special-pending, special-queued}
 use Rattle.bank_slots_spec.proofs.CalledLaws.{with-answer, state-short, called-unfit}
-use Rattle.bank_slots_spec.specs.Called.{long}
+use Rattle.bank_slots_spec.specs.Called.{sized}
 use borrow.Author.Needs.{needs}
 use Rattle.bank_slots.proofs.commands.command_special.Statement.{statement}
 use Rattle.bank_slots.proofs.commands.command_special.Tie as tie
@@ -11,7 +11,7 @@ use Rattle.bank_slots.proofs.commands.command_special.Tie as tie
 returns : tie.Need-returns
 returns c =
     let a = c .before .before .before .args in
-    with-answer (λ b. called-unfit _ (state-short (a .bank .now) (long 4 (a .sequence .now)) (c .if1 .taken)))
+    with-answer (λ b. called-unfit _ (state-short (a .bank .now) (sized 4 (a .sequence .now)) (c .if1 .taken)))
 
 returns-2 : tie.Need-returns-2
 returns-2 c =

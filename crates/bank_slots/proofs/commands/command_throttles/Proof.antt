@@ -4,7 +4,7 @@ use mathlib.Core.Path.{_∙_, sym, ap}
 use mathlib.Core.Bool.{not}
 use Rattle.bank_slots_spec.proofs.CommandCalls.{other-long, throttles-faulted, throttles-high, throttles-stop, throttled}
 use Rattle.bank_slots_spec.proofs.CalledLaws.{with-answer, state-short, called-unfit}
-use Rattle.bank_slots_spec.specs.Called.{long}
+use Rattle.bank_slots_spec.specs.Called.{sized}
 use borrow.Author.Needs.{needs}
 use Rattle.bank_slots.proofs.commands.command_throttles.Statement.{statement}
 use Rattle.bank_slots.proofs.commands.command_throttles.Tie as tie
@@ -12,7 +12,7 @@ use Rattle.bank_slots.proofs.commands.command_throttles.Tie as tie
 returns : tie.Need-returns
 returns c =
     let a = c .before .before .before .args in
-    with-answer (λ b. called-unfit _ (state-short (a .bank .now) (long 4 (a .commands .now)) (c .if1 .taken)))
+    with-answer (λ b. called-unfit _ (state-short (a .bank .now) (sized 4 (a .commands .now)) (c .if1 .taken)))
 
 returns-2 : tie.Need-returns-2
 returns-2 c =

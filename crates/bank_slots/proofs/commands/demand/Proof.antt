@@ -5,7 +5,8 @@ use mathlib.Core.List.{List}
 use Prim.Native.Nat.{ℕ}
 use native.Mathlib.Omega.{arith}
 use Rattle.bank_slots_spec.specs.Memory.{Row, at, write, longRows}
-use Rattle.bank_slots_spec.specs.Layout.{VALUES, LEASE-STARTED, four}
+use Rattle.bank_slots_spec.specs.Places.{VALUES, LEASE-STARTED}
+use Rattle.bank_slots_spec.specs.Load.{four}
 use Rattle.bank_slots_spec.proofs.CommandMoves.{joinedOf, values-joined, demand-parts}
 use borrow.Author.Needs.{needs}
 use Rattle.bank_slots.proofs.commands.demand.Statement.{statement}

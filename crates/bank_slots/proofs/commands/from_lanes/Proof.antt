@@ -2,7 +2,7 @@
 -- Assumes nothing.
 use Rattle.bank_slots_spec.proofs.CommandCalls.{other-long, not-made, made}
 use Rattle.bank_slots_spec.proofs.CalledLaws.{state-short}
-use Rattle.bank_slots_spec.specs.Called.{long}
+use Rattle.bank_slots_spec.specs.Called.{sized}
 use mathlib.Core.Path.{_∙_, ap}
 use Prim.Native.Nat.{ℕ}
 use native.Mathlib.Omega.{arith}
@@ -15,7 +15,7 @@ returns : tie.Need-returns
 returns c =
     let xs = c .before .before .before .args .bank .now in
     let t = c .before .before .before .args .timing .now in
-    not-made xs t (state-short xs (long 4 t) (c .if1 .taken))
+    not-made xs t (state-short xs (sized 4 t) (c .if1 .taken))
 
 returns-2 : tie.Need-returns-2
 returns-2 c =

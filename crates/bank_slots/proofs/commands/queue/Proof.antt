@@ -4,7 +4,7 @@ use mathlib.Core.Path.{ap}
 use mathlib.Core.List.{[], _∷_}
 use Prim.Native.Nat.{ℕ, _%_}
 use Rattle.bank_slots_spec.specs.Memory.{at}
-use Rattle.bank_slots_spec.specs.Layout.{load}
+use Rattle.bank_slots_spec.specs.Load.{load}
 use Rattle.bank_slots_spec.specs.Moves.{onCore}
 use Rattle.bank_slots_spec.specs.Parts.{queued}
 use Rattle.bank_slots_spec.proofs.MoveLaws.{moves-as}

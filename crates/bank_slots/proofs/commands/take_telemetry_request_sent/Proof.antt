@@ -3,7 +3,7 @@
 use Rattle.bank_slots_spec.proofs.CommandCalls.{other-long, sent-taken, sent-told}
 use Rattle.bank_slots_spec.proofs.CalledLaws.{state-short, called-unfit, answer-unfit, out-kept}
 use native.Mathlib.Omega.{arith}
-use Rattle.bank_slots_spec.specs.Called.{long, stateAt}
+use Rattle.bank_slots_spec.specs.Called.{sized, stateAt}
 use Rattle.dshot_bank_spec.specs.Calls.{take-telemetry-request-sent}
 use borrow.Author.Needs.{needs}
 use Rattle.bank_slots.proofs.commands.take_telemetry_request_sent.Statement.{statement}
@@ -13,7 +13,7 @@ returns : tie.Need-returns
 returns c =
     let xs = c .before .before .before .args .bank .now in
     let out = c .before .before .before .args .out .now in
-    let e = state-short xs (long 2 out) (c .if1 .taken) in
+    let e = state-short xs (sized 2 out) (c .if1 .taken) in
     (λ b. called-unfit xs e, λ b. out-kept 13 out (answer-unfit take-telemetry-request-sent (stateAt xs b) e) (λ z. omega arith))
 
 returns-2 : tie.Need-returns-2

@@ -2,7 +2,7 @@
 -- Assumes nothing.
 use mathlib.Core.Path.{_∙_, refl, sym, ap}
 use mathlib.Core.Bool.{not}
-use Rattle.bank_slots_spec.specs.Layout.{load}
+use Rattle.bank_slots_spec.specs.Load.{load}
 use Rattle.dshot_bank_spec.proofs.LaneLaws.{on, off}
 use borrow.Author.Needs.{needs}
 use Rattle.bank_slots.proofs.interrupt.opens_window.Statement.{statement}

@@ -4,8 +4,8 @@ use mathlib.Core.Path.{_∙_, ap, refl}
 use mathlib.Core.List.{List, [], _∷_}
 use Prim.Native.Nat.{ℕ}
 use Rattle.dshot_bank_spec.proofs.LaneLaws.{on, off}
-use Rattle.bank_slots_spec.specs.Called.{long}
-use Rattle.bank_slots_spec.specs.Layout.{bit}
+use Rattle.bank_slots_spec.specs.Called.{sized}
+use Rattle.bank_slots_spec.specs.Store.{bit}
 use Rattle.bank_slots_spec.proofs.CalledLaws.{state-short}
 use Rattle.bank_slots_spec.proofs.CommandCalls.{other-long, both-fit}
 use Rattle.bank_slots_spec.proofs.FillLaws.{filled}
@@ -16,7 +16,7 @@ use Rattle.bank_slots.proofs.looks.look_flag.Tie as tie
 returns : tie.Need-returns
 returns c =
     let a = c .before .before .before .args in
-    let e = state-short (a .bank .now) (long 1 (a .out .now)) (c .if1 .taken) in
+    let e = state-short (a .bank .now) (sized 1 (a .out .now)) (c .if1 .taken) in
     (off _ _ e refl, off _ _ e refl)
 
 returns-2 : tie.Need-returns-2

@@ -6,7 +6,7 @@ use Prim.Native.Nat.{ℕ}
 use Rattle.dshot_reply_spec.specs.Answer.{Answer}
 use Rattle.dshot_reply_spec.specs.Value.{Reading}
 use Rattle.bank_slots_spec.specs.Memory.{at, write}
-use Rattle.bank_slots_spec.specs.Layout.{reply}
+use Rattle.bank_slots_spec.specs.Load.{reply}
 use Rattle.bank_slots_spec.specs.Outs.{replySlots}
 use Rattle.bank_slots_spec.specs.Parts.{slotRows}
 use borrow.Author.Needs.{needs}

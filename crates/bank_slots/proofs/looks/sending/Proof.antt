@@ -12,8 +12,9 @@ use Rattle.dshot_bank_spec.specs.State.{Buffers}
 use Rattle.dshot_bank_spec.specs.Calls.{Stepped, sending, slots, sequenceSent, buffersFit}
 use Rattle.dshot_bank.proofs.ReplyLaws.{part-is, two-fit, sending-is}
 use Rattle.bank_slots_spec.specs.Memory.{at}
-use Rattle.bank_slots_spec.specs.Layout.{flag, IN-SECOND, load}
-use Rattle.bank_slots_spec.specs.Layout as Layout
+use Rattle.bank_slots_spec.specs.Places.{IN-SECOND}
+use Rattle.bank_slots_spec.specs.Load.{flag, load}
+use Rattle.bank_slots_spec.specs.Places as Places
 use Rattle.bank_slots_spec.specs.Called.{stateAt}
 use Rattle.bank_slots_spec.proofs.LookLaws.{LooksAt, unfit-at, short-at, refused-at, told-at, view-is}
 use borrow.Author.Needs.{needs}
@@ -21,7 +22,7 @@ use Rattle.bank_slots.proofs.looks.sending.Statement.{statement}
 use Rattle.bank_slots.proofs.looks.sending.Tie as tie
 
 -- what the port refuses, and what is shown
-module _ (xs out : List ℕ) (b : Buffers) (motor : ℕ) (n : length xs ≡ Layout.slots) (l : length out ≡ 16) where
+module _ (xs out : List ℕ) (b : Buffers) (motor : ℕ) (n : length xs ≡ Places.slots) (l : length out ≡ 16) where
   unfit : buffersFit 4 b ≡ false → LooksAt (sending motor) 16 xs out b out 13
   unfit e = refused-at (sending motor) 16 xs out n l b (ap (λ (r : Stepped). r .answer) (sym (sending-is 4 (stateAt xs b) motor e refl))) (λ z. omega arith)
 

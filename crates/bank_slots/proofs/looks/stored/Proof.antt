@@ -2,7 +2,7 @@
 -- Assumes nothing.
 use mathlib.Core.Path.{sym, ap}
 use Prim.Native.Nat.{ℕ}
-use Rattle.bank_slots_spec.specs.Layout.{reply}
+use Rattle.bank_slots_spec.specs.Load.{reply}
 use Rattle.bank_slots_spec.proofs.LookLaws.{no-kind}
 use borrow.Author.Needs.{needs}
 use Rattle.bank_slots.proofs.looks.stored.Statement.{statement}

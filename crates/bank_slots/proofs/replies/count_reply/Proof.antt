@@ -3,8 +3,8 @@
 use mathlib.Core.Path.{_∙_, ap}
 use Rattle.dshot_bank_spec.specs.State.{LaneReply}
 use Rattle.bank_slots_spec.specs.Memory.{at, write}
-use Rattle.bank_slots_spec.specs.Layout.{laneRows}
-use Rattle.bank_slots_spec.specs.Parts.{laneFrom}
+use Rattle.bank_slots_spec.specs.Store.{laneRows}
+use Rattle.bank_slots_spec.specs.Load.{laneFrom}
 use Rattle.bank_slots_spec.proofs.ReplyMoves.{counts-of}
 use borrow.Author.Needs.{needs}
 use Rattle.bank_slots.proofs.replies.count_reply.Statement.{statement}

@@ -13,8 +13,8 @@ use Rattle.dshot_bank_spec.specs.Replies.{countReply}
 use Rattle.dshot_bank_spec.proofs.LaneLaws.{on, off}
 use Rattle.dshot_bank.proofs.ReplyLaws.{part-is}
 use Rattle.bank_slots_spec.specs.Memory.{at, write}
-use Rattle.bank_slots_spec.specs.Layout.{laneRows}
-use Rattle.bank_slots_spec.specs.Parts.{laneFrom}
+use Rattle.bank_slots_spec.specs.Store.{laneRows}
+use Rattle.bank_slots_spec.specs.Load.{laneFrom}
 use borrow.Author.Needs.{needs}
 use Rattle.bank_slots.proofs.replies.decode_lane.Statement.{statement}
 use Rattle.bank_slots.proofs.replies.decode_lane.Tie as tie

@@ -3,7 +3,7 @@
 use mathlib.Core.Path.{sym, ap}
 use Rattle.dshot_bank.specs.declared.StoredReply.{StoredReply}
 use Rattle.dshot_bank.specs.States.{storedAnswer}
-use Rattle.bank_slots_spec.specs.Layout.{replyNumber}
+use Rattle.bank_slots_spec.specs.Store.{replyNumber}
 use borrow.Author.Needs.{needs}
 use Rattle.bank_slots.proofs.replies.stored_number.Statement.{statement}
 use Rattle.bank_slots.proofs.replies.stored_number.Tie as tie

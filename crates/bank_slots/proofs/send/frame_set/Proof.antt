@@ -2,8 +2,8 @@
 -- Assumes nothing.
 use mathlib.Core.Path.{_∙_, sym, ap, subst}
 use Rattle.dshot_bank_spec.specs.Send.{FrameSet, frameSet}
-use Rattle.bank_slots_spec.specs.Layout.{load}
-use Rattle.bank_slots.specs.declared.send.NextFrame.{NextFrame}
+use Rattle.bank_slots_spec.specs.Load.{load}
+use Rattle.bank_slots.specs.declared.send.FrameCommand.{FrameCommand}
 use Rattle.bank_slots.specs.Frames.{motorCommandOf, OnLane}
 use borrow.Author.Needs.{needs}
 use Rattle.bank_slots.proofs.send.frame_set.Statement.{statement}
@@ -30,14 +30,14 @@ request-lane-requires c κs = search needs
 returns : tie.Need-returns
 returns c =
     let a = c .before .before .before .before .before .args in
-    let e = sym (ap (λ (n : NextFrame). frameSet 4 (load (a .state .now) .core) (motorCommandOf n)) (c .before .before .command .given .1)) in
+    let e = sym (ap (λ (n : FrameCommand). frameSet 4 (load (a .state .now) .core) (motorCommandOf n)) (c .before .before .command .given .1)) in
     record { values = c .one-lane .ensures ∙ ap (λ (f : FrameSet). f .values) e; lane = ap (λ (f : FrameSet). f .telemetryLane) e; request = ap (λ (f : FrameSet). f .telemetryRequest) e }
 
 returns-2 : tie.Need-returns-2
 unfolding load
 returns-2 c =
     let a = c .before .before .before .before .before .before .args in
-    let e = sym (ap (λ (n : NextFrame). frameSet 4 (load (a .state .now) .core) (motorCommandOf n)) (c .before .before .before .enum-told .given .1)) in
+    let e = sym (ap (λ (n : FrameCommand). frameSet 4 (load (a .state .now) .core) (motorCommandOf n)) (c .before .before .before .enum-told .given .1)) in
     record { values = c .before .before .values-at .ensures ∙ ap (λ (f : FrameSet). f .values) e; lane = c .request-lane .ensures ∙ ap (λ (f : FrameSet). f .telemetryLane) e; request = ap (λ (f : FrameSet). f .telemetryRequest) e }
 
 pub frame-set-spec : {M : Type 1} → statement M

@@ -8,8 +8,8 @@ use Rattle.bank_slots.proofs.send.frame_started.Tie as tie
 turn-marks-requires : tie.Need-turn-marks-requires
 turn-marks-requires c κs = search needs
 
-fly-requires : tie.Need-fly-requires
-fly-requires c κs = search needs
+mark-in-flight-requires : tie.Need-mark-in-flight-requires
+mark-in-flight-requires c κs = search needs
 
 carry-requires : tie.Need-carry-requires
 carry-requires c κs = search needs
@@ -18,8 +18,8 @@ same-length : tie.Need-same-length
 same-length c = search needs
 
 returns : tie.Need-returns
-returns c = frame-starts (c .before .before .before .before .before .before .before .before .before .before .before .before .before .args .now-ms) (c .before .before .before .before .before .before .before .before .before .before .before .before .before .args .ordinary) (c .before .before .before .before .before .before .before .before .before .before .turn-marks .ensures) (c .before .before .before .before .before .before .fly .ensures) (c .before .before .carry .ensures)
+returns c = frame-starts (c .before .before .before .before .before .before .before .before .before .before .before .before .before .args .now-ms) (c .before .before .before .before .before .before .before .before .before .before .before .before .before .args .ordinary) (c .before .before .before .before .before .before .before .before .before .before .turn-marks .ensures) (c .before .before .before .before .before .before .mark-in-flight .ensures) (c .before .before .carry .ensures)
 
 pub frame-started-spec : {M : Type 1} → statement M
 frame-started-spec =
-    tie.close (tie.spec turn-marks-requires fly-requires carry-requires same-length returns)
+    tie.close (tie.spec turn-marks-requires mark-in-flight-requires carry-requires same-length returns)

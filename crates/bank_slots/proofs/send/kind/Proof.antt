@@ -3,7 +3,7 @@
 use mathlib.Core.Path.{_∙_, refl, sym}
 use Rattle.dshot_spec.specs.Packet.{plain, inverted}
 use Rattle.dshot_bank_spec.proofs.LaneLaws.{on, off}
-use Rattle.bank_slots_spec.specs.Layout.{load}
+use Rattle.bank_slots_spec.specs.Load.{load}
 use borrow.Author.Needs.{needs}
 use Rattle.bank_slots.proofs.send.kind.Statement.{statement}
 use Rattle.bank_slots.proofs.send.kind.Tie as tie

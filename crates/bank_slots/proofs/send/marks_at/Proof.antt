@@ -1,7 +1,7 @@
 -- `bank_slots::send::marks_at` meets its contract: the four marks, slot by slot.
 -- Assumes nothing.
 use mathlib.Core.List.{[], _∷_}
-use Rattle.bank_slots_spec.specs.Layout.{load}
+use Rattle.bank_slots_spec.specs.Load.{load}
 use borrow.Author.Needs.{needs}
 use Rattle.bank_slots.proofs.send.marks_at.Statement.{statement}
 use Rattle.bank_slots.proofs.send.marks_at.Tie as tie

@@ -30,10 +30,10 @@ encode-spares-requires : tie.Need-encode-spares-requires
 encode-spares-requires c κs = search needs
 
 lanes-taken-requires : tie.Need-lanes-taken-requires
-lanes-taken-requires c κs = c .before .before .before .before .before .before .before .before .before .before .before .before .before .before .before .before .before .before .before .before .before .before .before .before .before .before .pre .1
+lanes-taken-requires c κs = c .before .before .before .before .before .before .before .before .before .before .before .before .before .before .before .before .before .before .before .before .before .before .before .before .before .before .before .pre .1
 
 exchange-refused-requires : tie.Need-exchange-refused-requires
-exchange-refused-requires c κs = c .before .before .before .before .before .before .before .before .before .before .before .before .before .before .before .before .before .before .before .before .before .state .given ∙ c .before .before .before .before .before .before .before .before .before .before .before .before .before .before .before .before .before .before .before .before .before .before .before .before .before .before .before .before .before .pre .0
+exchange-refused-requires c κs = c .before .before .before .before .before .before .before .before .before .before .before .before .before .before .before .before .before .before .before .before .before .before .state .given ∙ c .before .before .before .before .before .before .before .before .before .before .before .before .before .before .before .before .before .before .before .before .before .before .before .before .before .before .before .before .before .before .pre .0
 
 cast-tell : tie.Need-cast-tell
 cast-tell c = search needs
@@ -45,10 +45,10 @@ refused-orders-requires : tie.Need-refused-orders-requires
 refused-orders-requires c κs = search needs
 
 tell-requires : tie.Need-tell-requires
-tell-requires c κs = c .before .before .before .before .before .before .before .before .before .before .before .before .before .before .before .before .before .before .before .before .before .before .before .before .before .before .before .before .before .before .before .before .before .before .pre .4
+tell-requires c κs = c .before .before .before .before .before .before .before .before .before .before .before .before .before .before .before .before .before .before .before .before .before .before .before .before .before .before .before .before .before .before .before .before .before .before .before .pre .4
 
 same-length : tie.Need-same-length
-same-length c = c .before .before .before .before .before .before .state2 .given ∙ c .before .before .before .before .before .before .before .before .before .before .before .before .before .before .before .before .before .before .before .before .before .before .before .before .before .before .before .before .before .state .given
+same-length c = c .before .before .before .before .before .before .state2 .given ∙ c .before .before .before .before .before .before .before .before .before .before .before .before .before .before .before .before .before .before .before .before .before .before .before .before .before .before .before .before .before .before .state .given
 
 same-length-2 : tie.Need-same-length-2
 same-length-2 c = search needs
@@ -62,7 +62,7 @@ same-length-4 c = search needs
 returns : tie.Need-returns
 returns c =
     let d = c .before .before .before .before .before .before .before .before .before .before in
-    let e = d .before .before .before .before .before in
+    let e = d .before .before .before .before .before .before in
     let k = e .before .before .before .before .before .before .before in
     let f = k .before .before .before .before .frame-set in
     let n = k .before .before .before .before .before .before .before .before in
@@ -76,16 +76,16 @@ returns c =
     sends-refused (a .state .now) _ m s (a .now-ms) (a .lease-expired) (a .lanes .now) b spares (d .lanes-taken .result) (d .lanes-taken .ensures) (c .before .before .before .before .before .before .before .before .before .if1 .taken) (c .before .before .before .before .before .before .before .exchange-refused .ensures) (c .before .before .before .refused-orders .ensures) (c .before .before .tell .ensures)
 
 frame-started-requires : tie.Need-frame-started-requires
-frame-started-requires c κs = c .before .before .before .before .before .before .before .before .before .before .before .before .before .before .before .before .before .before .before .before .before .state .given ∙ c .before .before .before .before .before .before .before .before .before .before .before .before .before .before .before .before .before .before .before .before .before .before .before .before .before .before .before .before .before .pre .0
+frame-started-requires c κs = c .before .before .before .before .before .before .before .before .before .before .before .before .before .before .before .before .before .before .before .before .before .before .state .given ∙ c .before .before .before .before .before .before .before .before .before .before .before .before .before .before .before .before .before .before .before .before .before .before .before .before .before .before .before .before .before .before .pre .0
 
 sent-event-requires : tie.Need-sent-event-requires
 sent-event-requires c κs = search needs
 
 tell-requires-2 : tie.Need-tell-requires-2
-tell-requires-2 c κs = c .before .before .before .before .before .before .before .before .before .before .before .before .before .before .before .before .before .before .before .before .before .before .before .before .before .before .before .before .before .before .before .before .before .before .pre .4
+tell-requires-2 c κs = c .before .before .before .before .before .before .before .before .before .before .before .before .before .before .before .before .before .before .before .before .before .before .before .before .before .before .before .before .before .before .before .before .before .before .before .pre .4
 
 same-length-5 : tie.Need-same-length-5
-same-length-5 c = c .before .before .before .before .before .before .state3 .given ∙ c .before .before .before .before .before .before .before .before .before .before .before .before .before .before .before .before .before .before .before .before .before .before .before .before .before .before .before .before .before .state .given
+same-length-5 c = c .before .before .before .before .before .before .state3 .given ∙ c .before .before .before .before .before .before .before .before .before .before .before .before .before .before .before .before .before .before .before .before .before .before .before .before .before .before .before .before .before .before .state .given
 
 same-length-6 : tie.Need-same-length-6
 same-length-6 c = search needs
@@ -99,7 +99,7 @@ same-length-8 c = search needs
 returns-2 : tie.Need-returns-2
 returns-2 c =
     let d = c .before .before .before .before .before .before .before .before .before .before in
-    let e = d .before .before .before .before .before in
+    let e = d .before .before .before .before .before .before in
     let k = e .before .before .before .before .before .before .before in
     let f = k .before .before .before .before .frame-set in
     let n = k .before .before .before .before .before .before .before .before in

@@ -1,7 +1,7 @@
 -- `bank_slots::send::timing_at` meets its contract: the timing, slot by slot.
 -- Assumes nothing.
 use mathlib.Core.Path.{refl}
-use Rattle.bank_slots_spec.specs.Layout.{load}
+use Rattle.bank_slots_spec.specs.Load.{load}
 use borrow.Author.Needs.{needs}
 use Rattle.bank_slots.proofs.send.timing_at.Statement.{statement}
 use Rattle.bank_slots.proofs.send.timing_at.Tie as tie

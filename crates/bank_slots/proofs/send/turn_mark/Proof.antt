@@ -4,7 +4,7 @@ use mathlib.Core.Path.{_∙_, refl, ap}
 use mathlib.Core.Bool.{Bool, not}
 use lib.ListN.{set}
 use Rattle.dshot_bank_spec.proofs.LaneLaws.{on, off}
-use Rattle.bank_slots_spec.specs.Layout.{bit}
+use Rattle.bank_slots_spec.specs.Store.{bit}
 use borrow.Author.Needs.{needs}
 use Rattle.bank_slots.proofs.send.turn_mark.Statement.{statement}
 use Rattle.bank_slots.proofs.send.turn_mark.Tie as tie

@@ -1,7 +1,7 @@
 -- `bank_slots::send::values_at` meets its contract: the four values, slot by slot.
 -- Assumes nothing.
 use mathlib.Core.Path.{refl}
-use Rattle.bank_slots_spec.specs.Layout.{load}
+use Rattle.bank_slots_spec.specs.Load.{load}
 use borrow.Author.Needs.{needs}
 use Rattle.bank_slots.proofs.send.values_at.Statement.{statement}
 use Rattle.bank_slots.proofs.send.values_at.Tie as tie
