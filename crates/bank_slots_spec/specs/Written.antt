@@ -1,4 +1,5 @@
 -- Which contents the library writes, and which banks its types can hold.
+-- Added, for the calls that document 01 asks for from C.
 -- Assumes nothing.
 use Prim.Native.Nat.{ℕ, _+_, _*_, _^_, _<_, _≤_}
 use mathlib.Core.Path.{_≡_}

@@ -1,4 +1,5 @@
 -- What the digits of a line say, for the theorems that they say the line's numbers.
+-- For the digits of document 01's line.
 -- Assumes nothing.
 use Prim.Native.Nat.{ℕ, _+_, _-_, _*_}
 use mathlib.Core.List.{List, [], _∷_}

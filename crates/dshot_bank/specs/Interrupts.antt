@@ -1,4 +1,5 @@
 -- What the interrupt of the code returns, in the terms of the definitions.
+-- For `on_dma_interrupt`.
 -- Assumes nothing.
 use mathlib.Core.Path.{_≡_}
 use mathlib.Core.List.{List}

@@ -1,4 +1,5 @@
 -- The orders of the code in the terms of the definitions: one number, in which each order has seven bits, and the first duties beside it.
+-- For the calls of the Rust's trait `DshotLanes`.
 -- Assumes nothing.
 use Prim.Native.Nat.{ℕ, zero, suc, _+_, _-_, _*_, _/_, _%_}
 use mathlib.Core.Path.{_≡_}

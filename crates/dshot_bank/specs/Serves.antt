@@ -1,4 +1,5 @@
 -- What the service of the code returns, in the terms of the definitions.
+-- For `service`.
 -- Assumes nothing.
 use mathlib.Core.Path.{_≡_}
 use mathlib.Core.List.{List, []}

@@ -1,4 +1,5 @@
 -- The state of the code in the terms of the definitions.
+-- For `DshotBank` of the Rust's dshot_bank.rs.
 -- Assumes nothing.
 use Prim.Native.Nat.{ℕ}
 use mathlib.Core.List.{List, [], _∷_, map}

@@ -1,4 +1,5 @@
 -- What the view of the code returns, in the terms of the definitions.
+-- Added, for document 01's view.
 -- Assumes nothing.
 use Prim.Native.Nat.{ℕ}
 use mathlib.Core.List.{List, []}

@@ -1,4 +1,5 @@
 -- Lists over the lanes of a bank, and tests on them. How many lanes there are is a parameter.
+-- `any` and `position` stand for the Rust's iterator calls.
 -- Assumes nothing.
 use Prim.Native.Nat.{ℕ, suc, zero}
 use mathlib.Core.Bool.{Bool, true, false}

@@ -1,4 +1,5 @@
 -- What is claimed of a frame set that starts: the sequence that each lane is then seen to send reads back as what was to be sent.
+-- What is written reads back.
 -- Assumes nothing.
 use Prim.Native.Nat.{ℕ, _%_, _<_}
 use mathlib.Core.Path.{_≡_}

@@ -1,4 +1,5 @@
 -- A list by the entry at each place, and its parts: the lanes of a bank, the slots of a buffer. How many there are is a parameter.
+-- Stands for the Rust's `core::array::from_fn` and `map`.
 -- Assumes nothing.
 use Prim.Native.Nat.{ℕ, suc, zero, _*_}
 use mathlib.Core.List.{List, [], _∷_, _++_}

@@ -1,4 +1,5 @@
 -- How an exported call puts an answer into the slots that it is lent.
+-- Added, for the calls that document 01 asks for from C.
 -- Assumes nothing.
 use Prim.Native.Nat.{ℕ, _/_, _%_}
 use mathlib.Core.List.{List, [], _∷_}
