@@ -1,4 +1,4 @@
-// For bench/ alone: the cycles of a bank in a loop of the library's own, since C cannot hold a bank between two calls.
+// For bench/ alone: the cycles of a bank in a loop of the library's own, so that what is measured is the bank and not its calls from C.
 
 use dshot::DshotTiming;
 use dshot::MotorValues;
@@ -8,7 +8,8 @@ use dshot_bank::StoredReply;
 use dshot_bank::orders::Orders;
 ghost use mathlib.Core.Path.{_≡_};
 ghost use Prim.Native.Nat.{_*_, _≤_};
-ghost use mathlib.Core.Bool.{true, false};
+ghost use mathlib.Core.Bool.{true, false, not};
+ghost use lib.Dec.{eqb};
 ghost use lib.ListN.{length, replicate};
 ghost use Rattle.dshot_reply_spec.specs.Answer.{refusalNumber, filled};
 ghost use Rattle.dshot_spec.specs.Tabulate.{tabulate};
@@ -256,6 +257,27 @@ fn lengths_fit(cycles: usize, throttles: usize, first: usize, second: usize, cou
     counts == 24
 }
 
+// A new bank with its timing, bidirectional where the flag is not 0. Nothing is ordered yet.
+fn new_run(
+    arr: u16,
+    zero_high: u16,
+    one_high: u16,
+    reply_sample_arr: u16,
+    bidirectional: u32,
+) -> Run
+    ensures { λ r. ⌜ ((b : Buffers) → runOf r b ≡ Spec.start arr «zero_high» «one_high» «reply_sample_arr» (not (eqb bidirectional 0)) b) ⌝ }
+{
+    let timing = DshotTiming {
+        arr,
+        zero_high,
+        one_high,
+        reply_sample_arr,
+    };
+    let enabled = DshotBank::from_lanes(timing).enable_bidirectional(bidirectional != 0);
+    let bank = enabled.bank;
+    Run { bank, sum: 0 }
+}
+
 // As many cycles of a new bank as there are captures for, 640 samples each, with four throttles each: what is left in the two buffers, and 24
 // numbers of the bank. A flag of 0 is no, any other yes.
 #[no_mangle]
@@ -279,27 +301,14 @@ pub extern "C" fn bench_bank_cycles(
     ensures { λ r. ⌜ now (second .exit) ≡ filled secondOf (now (second .entry)) (asked arr «zero_high» «one_high» «reply_sample_arr» bidirectional present mask interrupts (now (throttles .entry)) (now (captures .entry)) (now (first .entry)) (now (second .entry)) (now (counts .entry))) ⌝ }
     ensures { λ r. ⌜ now (counts .exit) ≡ filled countsOf (now (counts .entry)) (asked arr «zero_high» «one_high» «reply_sample_arr» bidirectional present mask interrupts (now (throttles .entry)) (now (captures .entry)) (now (first .entry)) (now (second .entry)) (now (counts .entry))) ⌝ }
 {
-    let cycles = captures.len() / WINDOWS;
-    if !lengths_fit(
-        cycles,
-        throttles.len(),
-        first.len(),
-        second.len(),
-        counts.len(),
-    ) {
+    let n = captures.len() / WINDOWS;
+    if !lengths_fit(n, throttles.len(), first.len(), second.len(), counts.len()) {
         return 13;
     }
-    let timing = DshotTiming {
-        arr,
-        zero_high,
-        one_high,
-        reply_sample_arr,
-    };
-    let enabled = DshotBank::from_lanes(timing).enable_bidirectional(bidirectional != 0);
-    let bank = enabled.bank;
+    let start = new_run(arr, zero_high, one_high, reply_sample_arr, bidirectional);
     let run = cycles_from(
-        Run { bank, sum: 0 },
-        cycles,
+        start,
+        n,
         present != 0,
         mask,
         interrupts,

@@ -9,10 +9,8 @@ use lib.ListN.{length}
 use borrow.Author.Tests.{not-true, not-false}
 use Rattle.dshot_reply_spec.specs.Answer.{Answer, given, refused, wrongLength}
 use Rattle.dshot_bank_spec.proofs.LaneLaws.{on, off}
-use Rattle.dshot_bank_spec.specs.State.{Bank, Buffers}
-use Rattle.dshot_bank_spec.specs.Calls.{State, Stepped, step, enable-bidirectional}
-use Rattle.dshot_bank.specs.States.{stateOf}
-use Rattle.dshot_bank_bench.specs.Cycles.{cycles, asked}
+use Rattle.dshot_bank_spec.specs.State.{Buffers}
+use Rattle.dshot_bank_bench.specs.Cycles.{Run, cycles, asked}
 use Rattle.dshot_bank_bench.proofs.CycleLaws.{lengths-of, refused-all, given-all}
 use borrow.Author.Needs.{needs}
 use Rattle.dshot_bank_bench.proofs.bench_bank_cycles.Statement.{statement}
@@ -31,21 +29,18 @@ returns c =
     (a .captures .now) (a .first .now) (a .second .now) (a .counts .now) in
     refused-all told (a .first .now) (a .second .now) (a .counts .now) (sym (off _ _ misfit refl))
 
-from-lanes-requires : tie.Need-from-lanes-requires
-from-lanes-requires c κs = search needs
-
-enable-bidirectional-requires : tie.Need-enable-bidirectional-requires
-enable-bidirectional-requires c κs = search needs
+new-run-requires : tie.Need-new-run-requires
+new-run-requires c κs = search needs
 
 cycles-from-requires : tie.Need-cycles-from-requires
 cycles-from-requires c κs =
-    let d = c .before .before .before .before .before in
+    let d = c .before .before .before in
     let fits = lengths-of _ _ _ _ _ (sym (d .before .lengths-fit .ensures) ∙ not-false _ (d .if1 .left)) in
     (fits .0, omega arith)
 
 put-counts-requires : tie.Need-put-counts-requires
 put-counts-requires c κs =
-    let d = c .before .before .before .before .before .before .before .before .before .before .before in
+    let d = c .before .before .before .before .before .before .before .before .before in
     lengths-of _ _ _ _ _ (sym (d .before .lengths-fit .ensures) ∙ not-false _ (d .if1 .left)) .1
 
 same-length : tie.Need-same-length
@@ -61,18 +56,14 @@ returns-2 : tie.Need-returns-2
 unfolding asked
 returns-2 c =
     let r = c .before .before .before .before .before .before .before .before in
-    let e = r .before .before .before .before in
-    let f = e .before in
-    let d = f .before in
+    let e = r .before .before .before in
+    let d = e .before in
     let a = d .before .before .before .before .before .before .before .args in
     let b : Buffers = record { first = a .first .now; second = a .second .now } in
     let n = length (a .captures .now) / 640 in
     let fits = sym (d .before .lengths-fit .ensures) ∙ not-false _ (d .if1 .left) in
     let went = cycles (not (eqb (a .present) 0)) (a .mask) (a .interrupts) (a .throttles .now) (a .captures .now) in
-    let begun =
-    ap (λ (x : Stepped). x .state) (e .enable-bidirectional .ensures b)
-    ∙ ap (λ (k : Bank). step 4 (record { bank = k; buffers = b }) (enable-bidirectional (not (eqb (a .bidirectional) 0))) .state) (f .from-lanes .ensures) in
-    let done = r .cycles-from .ensures ∙ ap (λ (s : State). went (record { state = s; sum = 0 }) n) begun in
+    let done = r .cycles-from .ensures ∙ ap (λ (s : Run). went s n) (e .new-run .ensures b) in
     let told =
     asked (a .arr) (a .zero-high) (a .one-high) (a .reply-sample-arr) (a .bidirectional) (a .present) (a .mask) (a .interrupts) (a .throttles .now)
     (a .captures .now) (a .first .now) (a .second .now) (a .counts .now) in
@@ -84,8 +75,7 @@ bench-bank-cycles-spec =
     (tie.spec
     lengths-fit-requires
     returns
-    from-lanes-requires
-    enable-bidirectional-requires
+    new-run-requires
     cycles-from-requires
     put-counts-requires
     same-length
