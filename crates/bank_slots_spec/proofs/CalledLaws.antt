@@ -10,7 +10,8 @@ use lib.ListN.{length}
 use borrow.Author.Tests.{eq-eqb, ne-eqb}
 use Rattle.dshot_reply_spec.specs.Answer.{pick, wrongLength}
 use Rattle.dshot_bank_spec.specs.State.{Bank, Buffers}
-use Rattle.dshot_bank_spec.specs.Calls.{Call, Answer, refused, State, step}
+use Rattle.dshot_bank_spec.specs.Calls.{Call, Answer, refused, State}
+use Rattle.dshot_bank_spec.specs.Steps.{step}
 use Rattle.dshot_bank_spec.specs.Lists.{isRefused}
 use Rattle.dshot_bank_spec.proofs.LaneLaws.{on, off}
 use Rattle.dshot_bank_spec.proofs.Refusals.{refusals-keep}

@@ -10,7 +10,7 @@ use Rattle.dshot_bank_spec.specs.Calls.{Call}
 use Rattle.bank_slots_spec.specs.Places.{slots}
 use Rattle.bank_slots_spec.specs.Load.{load}
 use Rattle.bank_slots_spec.specs.Store.{store}
-use Rattle.bank_slots_spec.specs.Written.{Storable, Below}
+use Rattle.bank_slots_spec.specs.Storable.{Storable, Below}
 use Rattle.bank_slots_spec.specs.Called.{Called, bankAfter}
 use Rattle.bank_slots_spec.proofs.Stored.{load-store, store-written, written-stored, loads-fit}
 

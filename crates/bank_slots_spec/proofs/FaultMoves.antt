@@ -18,7 +18,7 @@ use Rattle.bank_slots_spec.specs.Memory.{Row, _holds_, at, write, word, 
 use Rattle.bank_slots_spec.specs.Places.{slots, VALUES, LEASE-OVER, REQUEST, REQUEST-SENT, RUN, BUSY, FAULTED, RECEIVING, REPLIES-WAITING, DMA-FAULTS, SPURIOUS}
 use Rattle.bank_slots_spec.specs.Load.{bankAt, load, four}
 use Rattle.bank_slots_spec.specs.Store.{runRows}
-use Rattle.bank_slots_spec.specs.Written.{RunFits}
+use Rattle.bank_slots_spec.specs.Storable.{RunFits}
 use Rattle.bank_slots_spec.specs.Moves.{Moves, onCore}
 use Rattle.bank_slots_spec.specs.Parts.{bumped, queued, faultCounted, flagsLatched, requestsCleared}
 use Rattle.bank_slots_spec.proofs.MemoryLaws.{length-write}

@@ -20,7 +20,8 @@ use Rattle.dshot_bank_spec.proofs.LaneLaws.{on, off}
 use Rattle.bank_slots_spec.specs.Memory.{word, long}
 use Rattle.bank_slots_spec.specs.Load.{flag, choice, reply, four}
 use Rattle.bank_slots_spec.specs.Store.{bit, choiceSlot, leaseNumber, replyKind, replyNumber, runMotor, ofRun}
-use Rattle.bank_slots_spec.specs.Written.{isFlag, isChoice, isRun, isReply, ChoiceFits, LeaseFits, RunFits, SequenceFits, ReplyFits}
+use Rattle.bank_slots_spec.specs.Written.{isFlag, isChoice, isRun, isReply}
+use Rattle.bank_slots_spec.specs.Storable.{ChoiceFits, LeaseFits, RunFits, SequenceFits, ReplyFits}
 use Rattle.bank_slots_spec.proofs.MemoryLaws.{both}
 
 -- ---- flags

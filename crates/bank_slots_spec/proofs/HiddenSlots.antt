@@ -16,7 +16,7 @@ use Rattle.dshot_bank_spec.specs.Commands.{noReplies}
 use Rattle.dshot_bank_spec.specs.Calls.{Answer, done, motor-sent, serviced, interrupted, replied, flag, counts, values, reply-counts, slots, ReplyStats}
 use Rattle.dshot_bank_spec.specs.Calls as Call
 use Rattle.dshot_bank_spec.proofs.Hidden.{hidden-replies}
-use Rattle.dshot_bank_spec.specs.Lists.{hideAnswer, hideTaken, hideCounts, hideBank}
+use Rattle.dshot_bank_spec.specs.Hide.{hideAnswer, hideTaken, hideCounts, hideBank}
 use Rattle.bank_slots_spec.specs.Memory.{at, write}
 use Rattle.bank_slots_spec.specs.Places.{REPLIES}
 use Rattle.bank_slots_spec.specs.Load.{fourLists}

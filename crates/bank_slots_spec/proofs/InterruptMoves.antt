@@ -18,7 +18,8 @@ use Rattle.dshot_bank_spec.specs.Order.{Order, stop-frame, begin-receive, end-r
 use Rattle.dshot_bank_spec.specs.OrderNumber.{code}
 use Rattle.dshot_bank_spec.specs.Send.{latchFault}
 use Rattle.dshot_bank_spec.specs.Interrupt.{InterruptEvent, completed, faulted, spurious, Interrupted, completionBit, isComplete, countCompletion, laneDone, frameDone, windowOpened, windowClosed, opensWindow, interrupted, latched, afterLane, onDmaInterrupt}
-use Rattle.dshot_bank_spec.specs.Calls.{Call, on-dma-interrupt, refused, State, Stepped, told, act, portRefusal, step}
+use Rattle.dshot_bank_spec.specs.Calls.{Call, on-dma-interrupt, refused, State, Stepped, told, act}
+use Rattle.dshot_bank_spec.specs.Steps.{portRefusal, step}
 use Rattle.dshot_bank_spec.proofs.LaneLaws.{on, off}
 use Rattle.bank_slots_spec.specs.Memory.{_holds_, at, write, word, wordRows}
 use Rattle.bank_slots_spec.specs.Places.{slots, BUSY, FAULTED, RECEIVING, REPLIES-WAITING, COMPLETION-MASK, FRAMES-COMPLETED, LANE-COMPLETIONS}

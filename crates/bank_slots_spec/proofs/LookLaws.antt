@@ -19,7 +19,8 @@ use Rattle.dshot_spec.specs.Tabulate.{part}
 use Rattle.dshot_bank_spec.specs.Lanes.{if_then_else_, isSome}
 use Rattle.dshot_bank_spec.specs.State.{Core, Buffers}
 use Rattle.dshot_bank_spec.specs.With.{withRepliesHeld, withFrame}
-use Rattle.dshot_bank_spec.specs.Calls.{Call, Answer, is-bidirectional, is-faulted, command-pending, requested-values, stats, reply-stats, take-replies, values, counts, reply-counts, replied, repliesTaken, sequenceSent, replyStatsOf, repliesOf, portRefusal, step}
+use Rattle.dshot_bank_spec.specs.Calls.{Call, Answer, is-bidirectional, is-faulted, command-pending, requested-values, stats, reply-stats, take-replies, values, counts, reply-counts, replied, repliesTaken, sequenceSent, replyStatsOf, repliesOf}
+use Rattle.dshot_bank_spec.specs.Steps.{portRefusal, step}
 use Rattle.dshot_bank_spec.specs.Calls as Call
 use Rattle.dshot_bank_spec.proofs.LaneLaws.{off}
 use Rattle.bank_slots_spec.specs.Memory.{_holds_, at, write, word, wordRows}

@@ -24,7 +24,8 @@ use Rattle.bank_slots_spec.specs.Memory.{Row, _holds_, at, write, over, 
 use Rattle.bank_slots_spec.specs.Places.{slots, REPLIES, REPLIES-WAITING, REPLIES-HELD}
 use Rattle.bank_slots_spec.specs.Load.{bankAt, load, flag, reply}
 use Rattle.bank_slots_spec.specs.Store.{replyKind, replyNumber, laneRows}
-use Rattle.bank_slots_spec.specs.Written.{isReply, ReplyFits, WrittenAt}
+use Rattle.bank_slots_spec.specs.Written.{isReply, WrittenAt}
+use Rattle.bank_slots_spec.specs.Storable.{ReplyFits}
 use Rattle.bank_slots_spec.specs.Moves.{Moves, onCore}
 use Rattle.bank_slots_spec.specs.Load.{laneFrom}
 use Rattle.bank_slots_spec.specs.Parts.{withReplies, windowsRead}

@@ -23,7 +23,7 @@ use Rattle.dshot_bank_spec.specs.Commands.{MotorCommand, NextFrame, nextOf, nex
 use Rattle.dshot_bank_spec.specs.Send.{FrameSet, asLane, frameSet, nextSet, kindSent, packetsSent, firstDuties, encodeLanes, sentBuffers, Sent, latchFault, exchangeRefused, frameStarted, exchangeBuffers, sendRequested}
 use Rattle.dshot_bank_spec.specs.Replies.{wrappingAdd}
 use Rattle.dshot_bank_spec.specs.Service.{frame-started, lease-expired, faulted, sentEvent, sending}
-use Rattle.dshot_bank_spec.specs.Calls.{buffersFit}
+use Rattle.dshot_bank_spec.specs.Steps.{buffersFit}
 use Rattle.dshot_bank_spec.proofs.LaneLaws.{on, off, under}
 use Rattle.bank_slots_spec.specs.Memory.{Row, _holds_, at, write, over, within, word, wordRows, longRows}
 use Rattle.bank_slots_spec.specs.Places.{slots, VALUES, REQUEST, REQUEST-SENT, RUN, BUSY, IN-SECOND, COMPLETION-MASK, STARTED, FRAMES-STARTED}

@@ -19,7 +19,8 @@ use Rattle.dshot_bank_spec.specs.Commands.{commandStop, clearRequestSent}
 use Rattle.dshot_bank_spec.specs.Send.{latchFault}
 use Rattle.dshot_bank_spec.specs.Service.{isSomeAndExpired, demandExpired, expireLease, countBusySkip, countTimeout, Skipped, skipped, serviceBusy, repliesRead, readReplies, Served, unsent, sending, serviceCore, service}
 use Rattle.dshot_bank_spec.specs.Service as Service
-use Rattle.dshot_bank_spec.specs.Calls.{Call, service-call, refused, State, Stepped, told, act, serviceFits, lengthRefusal, portRefusal, refuseOr, step}
+use Rattle.dshot_bank_spec.specs.Calls.{Call, service-call, refused, State, Stepped, told, act}
+use Rattle.dshot_bank_spec.specs.Steps.{serviceFits, lengthRefusal, portRefusal, refuseOr, step}
 use Rattle.dshot_bank_spec.proofs.LaneLaws.{on, off}
 use Rattle.bank_slots_spec.specs.Memory.{at}
 use Rattle.bank_slots_spec.specs.Memory as Memory

@@ -10,13 +10,15 @@ use lib.ListN.{length, getD}
 use Rattle.dshot_spec.specs.Timing.{Timing}
 use Rattle.dshot_bank_spec.specs.State.{Bank, Buffers}
 use Rattle.dshot_bank_spec.specs.Commands.{fromLanes, enableBidirectional}
-use Rattle.dshot_bank_spec.specs.Calls.{enable-bidirectional, service-call, State, Stepped, portRefusal, step}
-use Rattle.dshot_bank_spec.specs.Lists.{hideState, run, fresh}
+use Rattle.dshot_bank_spec.specs.Calls.{enable-bidirectional, service-call, State, Stepped}
+use Rattle.dshot_bank_spec.specs.Steps.{portRefusal, step}
+use Rattle.dshot_bank_spec.specs.Lists.{run, fresh}
+use Rattle.dshot_bank_spec.specs.Hide.{hideState}
 use Rattle.dshot_bank_spec.proofs.Storing.{stores}
 use Rattle.dshot_bank_spec.proofs.Decoding.{decodes}
 use Rattle.bank_slots_spec.specs.Load.{load}
 use Rattle.bank_slots_spec.specs.Store.{store}
-use Rattle.bank_slots_spec.specs.Written.{Storable}
+use Rattle.bank_slots_spec.specs.Storable.{Storable}
 use Rattle.bank_slots_spec.specs.Called.{Called, stateAt, bankAfter, buffersAfter}
 use Rattle.bank_slots_spec.specs.SlotLists.{Made, made, madeTrace, madeRun, fitting, Shown, Ran, none-left, one-more, leaves, MadeAlike, both-end, both-more}
 use Rattle.bank_slots_spec.specs.SlotClaims.{SameSlots, no-state, one-state, SlotsFollow, SlotsStores}

@@ -9,8 +9,10 @@ use Rattle.dshot_reply_spec.specs.Answer.{pick, wrongLength}
 use Rattle.dshot_reply_spec.specs.Answer as Reply
 use Rattle.dshot_bank_spec.specs.State.{Core, Bank, Buffers}
 use Rattle.dshot_bank_spec.specs.Commands.{enableBidirectional, commandThrottles, commandSpecial, requestTelemetry}
-use Rattle.dshot_bank_spec.specs.Calls.{Call, enable-bidirectional, command-stop, command-throttles, command-special, request-telemetry, cancel-telemetry-request, take-telemetry-request-sent, service-call, on-dma-interrupt, take-replies, is-bidirectional, is-faulted, stats, requested-values, command-pending, reply-stats, sending, lend, refused, State, Stepped, told, commanded, act, step}
-use Rattle.dshot_bank_spec.specs.Lists.{Alike, hide, hideAnswer, hideState, isLook, run, trace}
+use Rattle.dshot_bank_spec.specs.Calls.{Call, enable-bidirectional, command-stop, command-throttles, command-special, request-telemetry, cancel-telemetry-request, take-telemetry-request-sent, service-call, on-dma-interrupt, take-replies, is-bidirectional, is-faulted, stats, requested-values, command-pending, reply-stats, sending, lend, refused, State, Stepped, told, commanded, act}
+use Rattle.dshot_bank_spec.specs.Steps.{step}
+use Rattle.dshot_bank_spec.specs.Lists.{isLook, run, trace}
+use Rattle.dshot_bank_spec.specs.Hide.{Alike, hide, hideAnswer, hideState}
 use Rattle.dshot_bank_spec.proofs.Isolation.{step-alike}
 use Rattle.dshot_bank_spec.proofs.Refusals.{either-step, looks-keep}
 use Rattle.bank_slots_spec.specs.Load.{load}

@@ -17,7 +17,8 @@ use Rattle.bank_slots_spec.specs.Memory.{at, write, over, within, word, 
 use Rattle.bank_slots_spec.specs.Places.{slots, LEASE-STARTED, LEASE-OVER, REQUEST, REQUEST-SENT, RUN, BUSY, FAULTED, BIDIRECTIONAL, RECEIVING, REPLIES-WAITING, REPLIES-HELD, IN-SECOND, COMPLETION-MASK, STARTED, FRAMES-STARTED, FRAMES-COMPLETED, BUSY-SKIPS, LEASE-EXPIRIES, FRAME-TIMEOUTS, DMA-FAULTS, SPURIOUS, LANE-COMPLETIONS, REPLIES}
 use Rattle.bank_slots_spec.specs.Load.{flag, reply, four, demandAt, telemetryAt, runAt, frameAt, statsAt, coreAt, laneAt, bankAt, load}
 use Rattle.bank_slots_spec.specs.Store.{bit, replyKind, replyNumber, demandRows, telemetryRows, runRows, frameRows, statsRows, coreRows, laneRows, repliesRows, bankRows, store}
-use Rattle.bank_slots_spec.specs.Written.{isReply, FlagsWritten, MarksWritten, RequestsWritten, ReplyWritten, RepliesWritten, WrittenAt, Written, Below, ReplyFits, Storable}
+use Rattle.bank_slots_spec.specs.Written.{isReply, FlagsWritten, MarksWritten, RequestsWritten, ReplyWritten, RepliesWritten, WrittenAt, Written}
+use Rattle.bank_slots_spec.specs.Storable.{Below, ReplyFits, Storable}
 use Rattle.bank_slots_spec.specs.Moves.{Moves}
 use Rattle.bank_slots_spec.proofs.MemoryLaws.{at-write, length-write, Agrees, nil, row, agrees-append, write-agrees, word-back}
 use Rattle.bank_slots_spec.proofs.FillLaws.{tabulated}

@@ -11,7 +11,8 @@ use lib.ListN.{length, replicate, getD}
 use Rattle.dshot_reply_spec.specs.Answer.{pick, wrongLength}
 use Rattle.dshot_bank_spec.specs.Lanes.{if_then_else_}
 use Rattle.dshot_bank_spec.specs.State.{Bank, Buffers}
-use Rattle.dshot_bank_spec.specs.Calls.{Call, Answer, done, refused, motor-sent, serviced, interrupted, replied, flag, counts, values, reply-counts, slots, State, step}
+use Rattle.dshot_bank_spec.specs.Calls.{Call, Answer, done, refused, motor-sent, serviced, interrupted, replied, flag, counts, values, reply-counts, slots, State}
+use Rattle.dshot_bank_spec.specs.Steps.{step}
 use Rattle.bank_slots_spec.specs.Load.{load}
 use Rattle.bank_slots_spec.specs.Places as Places
 use Rattle.bank_slots_spec.specs.Written.{Written}

@@ -3,6 +3,7 @@ pub mod Places
 pub mod Load
 pub mod Store
 pub mod Written
+pub mod Storable
 pub mod Moves
 pub mod Called
 pub mod Parts

@@ -9,13 +9,14 @@ use Rattle.dshot_spec.specs.Timing.{Timing}
 use Rattle.dshot_bank_spec.specs.State.{Bank, Buffers}
 use Rattle.dshot_bank_spec.specs.Commands.{fromLanes}
 use Rattle.dshot_bank_spec.specs.Calls.{Call, enable-bidirectional, service-call, Answer, done, refused, motor-sent, serviced, interrupted, replied, flag, counts, values, reply-counts, slots, State, Stepped}
-use Rattle.dshot_bank_spec.specs.Lists.{hide, run, trace, fresh}
+use Rattle.dshot_bank_spec.specs.Lists.{run, trace, fresh}
+use Rattle.dshot_bank_spec.specs.Hide.{hide}
 use Rattle.dshot_bank_spec.specs.Claims.{fits, reads, before, served, Stored, Decoded}
 use Rattle.bank_slots_spec.specs.Memory.{at}
 use Rattle.bank_slots_spec.specs.Places.{REPLIES}
 use Rattle.bank_slots_spec.specs.Load.{load}
 use Rattle.bank_slots_spec.specs.Store.{store}
-use Rattle.bank_slots_spec.specs.Written.{Storable}
+use Rattle.bank_slots_spec.specs.Storable.{Storable}
 use Rattle.bank_slots_spec.specs.Called.{Called, stateAt}
 use Rattle.bank_slots_spec.specs.SlotLists.{Made, made, madeTrace, madeRun, Shown, shownAll, Ran, leaves, fitting, fittingOf, actingMade, actingMadeOf, MadeAlike}
 

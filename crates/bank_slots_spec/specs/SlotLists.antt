@@ -8,9 +8,11 @@ use lib.ListN.{length}
 use Rattle.dshot_reply_spec.specs.Answer.{pick, wrongLength}
 use Rattle.dshot_bank_spec.specs.Lanes.{if_then_else_}
 use Rattle.dshot_bank_spec.specs.State.{Buffers}
-use Rattle.dshot_bank_spec.specs.Calls.{Call, Answer, refused, State, Stepped, told, step}
-use Rattle.dshot_bank_spec.specs.Lists.{Alike, isLook}
-use Rattle.bank_slots_spec.specs.Written.{Below}
+use Rattle.dshot_bank_spec.specs.Calls.{Call, Answer, refused, State, Stepped, told}
+use Rattle.dshot_bank_spec.specs.Steps.{step}
+use Rattle.dshot_bank_spec.specs.Lists.{isLook}
+use Rattle.dshot_bank_spec.specs.Hide.{Alike}
+use Rattle.bank_slots_spec.specs.Storable.{Below}
 use Rattle.bank_slots_spec.specs.Called.{Called, number, stateAt, answerOf, buffersAfter}
 use Rattle.bank_slots_spec.specs.Outs.{outAfter}
 

@@ -15,7 +15,8 @@ use Rattle.dshot_spec.specs.Tabulate.{tabulate, part}
 use Rattle.dshot_spec.proofs.Tabulated.{length-tabulate, getD-tabulate}
 use Rattle.dshot_bank_spec.specs.Lanes.{if_then_else_}
 use Rattle.dshot_bank_spec.specs.Refusals.{noSuchMotor}
-use Rattle.dshot_bank_spec.specs.Calls.{State, Stepped, sending, act, slotsFit, serviceFits, buffersFit, lengthRefusal, portRefusal, refuseOr, step}
+use Rattle.dshot_bank_spec.specs.Calls.{State, Stepped, sending, act}
+use Rattle.dshot_bank_spec.specs.Steps.{slotsFit, serviceFits, buffersFit, lengthRefusal, portRefusal, refuseOr, step}
 use Rattle.dshot_bank.specs.Views.{shown}
 
 -- ---- arrays

@@ -12,7 +12,8 @@ use Rattle.dshot_bank_spec.specs.State.{Buffers}
 use Rattle.dshot_bank_spec.specs.State as Spec
 use Rattle.dshot_bank_spec.specs.Refusals.{noSuchMotor}
 use Rattle.dshot_bank_spec.specs.With.{withDemand}
-use Rattle.dshot_bank_spec.specs.Calls.{Call, Answer, done, refused, State, told, changed, commanded, act, laneRefusal, portRefusal, refuseOr, step}
+use Rattle.dshot_bank_spec.specs.Calls.{Call, Answer, done, refused, State, told, changed, commanded, act}
+use Rattle.dshot_bank_spec.specs.Steps.{laneRefusal, portRefusal, refuseOr, step}
 use Rattle.dshot_bank.specs.declared.DshotMotor.{DshotMotor}
 use Rattle.dshot_bank.specs.declared.DshotMotor.the-variants.{Motor1, Motor2, Motor3, Motor4}
 use Rattle.dshot_bank.specs.declared.Requests.{Requests}

@@ -24,7 +24,8 @@ ghost use Rattle.dshot_bank_spec.specs.Interrupt.{countCompletion, laneDone, fr
 ghost use Rattle.dshot_bank_spec.specs.Interrupt as Spec;
 ghost use Rattle.dshot_bank_spec.specs.Replies.{wrappingAdd};
 ghost use Rattle.dshot_bank_spec.specs.With.{withFramesCompleted};
-ghost use Rattle.dshot_bank_spec.specs.Calls.{step, on-dma-interrupt};
+ghost use Rattle.dshot_bank_spec.specs.Calls.{on-dma-interrupt};
+ghost use Rattle.dshot_bank_spec.specs.Steps.{step};
 ghost use Rattle.dshot_bank.specs.States.{motorOf, frameOf, statsOf, coreOf, stateOf, stepped};
 ghost use Rattle.dshot_bank.specs.Orders.{held, ordersOf, Begins, Just};
 ghost use Rattle.dshot_bank.specs.Interrupts.{interruptAnswer, Interrupts};

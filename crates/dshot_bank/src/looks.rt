@@ -11,7 +11,8 @@ use dshot::MotorValues;
 ghost use mathlib.Core.Path.{_≡_};
 ghost use Rattle.dshot_bank_spec.specs.State.{Buffers};
 ghost use Rattle.dshot_bank_spec.specs.Calls as Call;
-ghost use Rattle.dshot_bank_spec.specs.Calls.{Stepped, slotsFit, step, flag, counts, values, sequenceSent};
+ghost use Rattle.dshot_bank_spec.specs.Calls.{Stepped, flag, counts, values, sequenceSent};
+ghost use Rattle.dshot_bank_spec.specs.Steps.{slotsFit, step};
 ghost use Rattle.dshot_bank.specs.States.{statsOf, coreOf, stateOf, stepped};
 ghost use Rattle.dshot_bank.specs.Views.{viewAnswer, shown};
 

@@ -24,7 +24,8 @@ ghost use Rattle.dshot_bank_spec.specs.State.{Buffers};
 ghost use Rattle.dshot_bank_spec.specs.Replies.{wrappingAdd, saturatingAdd, readWindow, countReply, decodeReplies};
 ghost use Rattle.dshot_bank_spec.specs.Service.{readReplies};
 ghost use Rattle.dshot_bank_spec.specs.Calls as Call;
-ghost use Rattle.dshot_bank_spec.specs.Calls.{step, reply-counts};
+ghost use Rattle.dshot_bank_spec.specs.Calls.{reply-counts};
+ghost use Rattle.dshot_bank_spec.specs.Steps.{step};
 ghost use Rattle.dshot_bank.specs.States.{storedAnswer, laneReplyOf, repliesOf, stateOf, stepped};
 ghost use Rattle.dshot_bank.specs.Answers.{noTakenReply, answersOf, takenAnswer, replyStatsOf};
 

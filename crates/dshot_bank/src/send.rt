@@ -38,7 +38,7 @@ ghost use Rattle.dshot.specs.Answers.{kindOf, laneOf, words, timingOf, commandO
 ghost use Rattle.dshot_bank_spec.specs.Lanes.{position};
 ghost use Rattle.dshot_bank_spec.specs.State.{Buffers};
 ghost use Rattle.dshot_bank_spec.specs.With.{withFramesStarted, withFrame, withInSecond};
-ghost use Rattle.dshot_bank_spec.specs.Calls.{slotsFit};
+ghost use Rattle.dshot_bank_spec.specs.Steps.{slotsFit};
 ghost use Rattle.dshot_bank_spec.specs.Commands.{nextOf, nextOfRun, nextCommandFrame};
 ghost use Rattle.dshot_bank_spec.specs.Replies.{wrappingAdd};
 ghost use Rattle.dshot_bank_spec.specs.Send.{countFault, latchFault, frameSet, kindSent, firstDuties, writeSpare, encodeLanes, turnMarks, carry, exchangeRefused, frameStarted, exchangeBuffers, sendRequested, sentBuffers, asLane};

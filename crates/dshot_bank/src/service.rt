@@ -28,7 +28,8 @@ ghost use Rattle.dshot_bank_spec.specs.Service.{demandExpired, expireLease, ser
 ghost use Rattle.dshot_bank_spec.specs.Service as Spec;
 ghost use Rattle.dshot_bank_spec.specs.Replies.{wrappingAdd};
 ghost use Rattle.dshot_bank_spec.specs.With.{withBusySkips, withLeaseExpiries, withFrameTimeouts};
-ghost use Rattle.dshot_bank_spec.specs.Calls.{Stepped, serviceFits, step, service-call};
+ghost use Rattle.dshot_bank_spec.specs.Calls.{Stepped, service-call};
+ghost use Rattle.dshot_bank_spec.specs.Steps.{serviceFits, step};
 ghost use Rattle.dshot_bank.specs.States.{demandOf, statsOf, coreOf, repliesOf, bankOf};
 ghost use Rattle.dshot_bank.specs.Orders.{ordersOf, Just};
 ghost use Rattle.dshot_bank.specs.Serves.{serviceEventOf, serviceAnswer, Skips, Serves};

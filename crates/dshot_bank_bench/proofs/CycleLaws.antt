@@ -14,7 +14,8 @@ use Rattle.dshot_reply_spec.specs.Answer.{Answer, given, refused, pick, refusal
 use Rattle.dshot_reply_spec.proofs.Answered.{refused-so, given-so}
 use Rattle.dshot_spec.specs.Tabulate.{part}
 use Rattle.dshot_bank_spec.specs.Calls as Calls
-use Rattle.dshot_bank_spec.specs.Calls.{Call, State, Stepped, step, on-dma-interrupt}
+use Rattle.dshot_bank_spec.specs.Calls.{Call, State, Stepped, on-dma-interrupt}
+use Rattle.dshot_bank_spec.specs.Steps.{step}
 use Rattle.dshot_bank.proofs.ReplyLaws.{fit-both}
 use Rattle.dshot_bank.specs.declared.orders.Orders.{Orders}
 use Rattle.dshot_bank.specs.Orders.{held, ordersIn, Just}

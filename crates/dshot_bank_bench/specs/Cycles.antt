@@ -12,7 +12,8 @@ use Rattle.dshot_reply_spec.specs.Value.{Reading, erpm, temp, volt, amp, debug,
 use Rattle.dshot_spec.specs.Tabulate.{tabulate, part}
 use Rattle.dshot_bank_spec.specs.State.{Stats, LaneReply, Bank, Buffers}
 use Rattle.dshot_bank_spec.specs.Commands.{fromLanes}
-use Rattle.dshot_bank_spec.specs.Calls.{Call, State, step, enable-bidirectional, command-throttles, service-call, on-dma-interrupt}
+use Rattle.dshot_bank_spec.specs.Calls.{Call, State, enable-bidirectional, command-throttles, service-call, on-dma-interrupt}
+use Rattle.dshot_bank_spec.specs.Steps.{step}
 use Rattle.dshot_bank.specs.declared.orders.Orders.{Orders}
 use Rattle.dshot_bank.specs.Orders.{held, ordersIn}
 use Rattle.dshot_bank_spec.specs.OrderNumber.{dutiesIn}

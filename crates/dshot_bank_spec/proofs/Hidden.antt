@@ -12,7 +12,7 @@ use Rattle.dshot_reply_spec.specs.Value.{Reading}
 use Rattle.dshot_bank_spec.specs.State.{LaneReply}
 use Rattle.dshot_bank_spec.specs.Commands.{noReplies}
 use Rattle.dshot_bank_spec.specs.Calls.{ReplyStats}
-use Rattle.dshot_bank_spec.specs.Lists.{hideReplies, hideTaken, hideCounts}
+use Rattle.dshot_bank_spec.specs.Hide.{hideReplies, hideTaken, hideCounts}
 
 -- two lists, with one entry replaced in both
 pub hidden-rest : {A : Type 0} (lane : ℕ) (x d : A) (l m : List A) → set l lane x ≡ set m lane x → (k : ℕ) → (k ≡ lane → ⊥) → getD l k d ≡ getD m k d

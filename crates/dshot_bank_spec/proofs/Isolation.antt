@@ -17,8 +17,10 @@ use Rattle.dshot_bank_spec.specs.Commands.{noReplies, enableBidirectiona
 use Rattle.dshot_bank_spec.specs.Replies.{window, readWindow, countReply, decodeReplies}
 use Rattle.dshot_bank_spec.specs.Service.{Served, Skipped, skipped, unsent, serviceBusy, demandExpired, expireLease, repliesRead, readReplies, serviceCore}
 use Rattle.dshot_bank_spec.specs.Service as Service
-use Rattle.dshot_bank_spec.specs.Calls.{Call, enable-bidirectional, command-stop, command-throttles, command-special, request-telemetry, cancel-telemetry-request, take-telemetry-request-sent, service-call, on-dma-interrupt, take-replies, is-bidirectional, is-faulted, stats, requested-values, command-pending, reply-stats, sending, lend, done, refused, replied, reply-counts, State, Stepped, told, changed, commanded, servedStep, repliesOf, repliesTaken, act, buffersFit, lengthRefusal, portRefusal, refuseOr, step}
-use Rattle.dshot_bank_spec.specs.Lists.{trace, fresh, hide, hideState, hideReplies, hideTaken, Alike, same, captured, AlikeAll, none-left, one-more}
+use Rattle.dshot_bank_spec.specs.Calls.{Call, enable-bidirectional, command-stop, command-throttles, command-special, request-telemetry, cancel-telemetry-request, take-telemetry-request-sent, service-call, on-dma-interrupt, take-replies, is-bidirectional, is-faulted, stats, requested-values, command-pending, reply-stats, sending, lend, done, refused, replied, reply-counts, State, Stepped, told, changed, commanded, servedStep, repliesOf, repliesTaken, act}
+use Rattle.dshot_bank_spec.specs.Steps.{buffersFit, lengthRefusal, portRefusal, refuseOr, step}
+use Rattle.dshot_bank_spec.specs.Lists.{trace, fresh}
+use Rattle.dshot_bank_spec.specs.Hide.{hide, hideState, hideReplies, hideTaken, Alike, same, captured, AlikeAll, none-left, one-more}
 use Rattle.dshot_bank_spec.specs.Claims.{Isolated}
 use Rattle.dshot_bank_spec.proofs.Hidden.{hidden-replies}
 use Rattle.dshot_bank_spec.proofs.LaneLaws.{set-tabulate, map-set}

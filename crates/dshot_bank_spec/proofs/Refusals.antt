@@ -11,7 +11,8 @@ use Rattle.dshot_reply_spec.specs.Answer.{pick, given}
 use Rattle.dshot_reply_spec.specs.Answer as Reply
 use Rattle.dshot_bank_spec.specs.State.{Core}
 use Rattle.dshot_bank_spec.specs.Commands.{enableBidirectional, commandThrottles, commandSpecial, requestTelemetry}
-use Rattle.dshot_bank_spec.specs.Calls.{Call, enable-bidirectional, command-stop, command-throttles, command-special, request-telemetry, cancel-telemetry-request, take-telemetry-request-sent, service-call, on-dma-interrupt, take-replies, is-bidirectional, is-faulted, stats, requested-values, command-pending, reply-stats, sending, lend, refused, State, Stepped, told, commanded, act, portRefusal, step}
+use Rattle.dshot_bank_spec.specs.Calls.{Call, enable-bidirectional, command-stop, command-throttles, command-special, request-telemetry, cancel-telemetry-request, take-telemetry-request-sent, service-call, on-dma-interrupt, take-replies, is-bidirectional, is-faulted, stats, requested-values, command-pending, reply-stats, sending, lend, refused, State, Stepped, told, commanded, act}
+use Rattle.dshot_bank_spec.specs.Steps.{portRefusal, step}
 use Rattle.dshot_bank_spec.specs.Lists.{trace, run, sourceRun, isLook, acting, actingOf, isRefused, accepted, acceptedOf}
 use Rattle.dshot_bank_spec.specs.Claims.{LooksKeep, RefusalsKeep, RefusalsLeaveOut}
 use Rattle.dshot_bank_spec.proofs.LaneLaws.{either, under}

@@ -26,7 +26,8 @@ use Rattle.dshot_bank_spec.specs.Order.{Order, exchange-buffer, start-dm
 use Rattle.dshot_bank_spec.specs.Commands.{clearRequestSent, nextCommandFrame}
 use Rattle.dshot_bank_spec.specs.Send.{nextSet, kindSent, packetsSent, firstDuties, encodeLanes, turnMarks, Sent, exchangeRefused, frameStarted, exchangeBuffers, sendRequested, sentBuffers}
 use Rattle.dshot_bank_spec.specs.Service.{Served, Skipped, skipped, unsent, faulted, serviceBusy, demandExpired, repliesRead, readReplies, serviceCore}
-use Rattle.dshot_bank_spec.specs.Calls.{service-call, sending, serviced, slots, State, Stepped, told, servedStep, buffersFit, lengthRefusal, laneRefusal, sequenceSent, portRefusal, refuseOr, step}
+use Rattle.dshot_bank_spec.specs.Calls.{service-call, sending, serviced, slots, State, Stepped, told, servedStep, sequenceSent}
+use Rattle.dshot_bank_spec.specs.Steps.{buffersFit, lengthRefusal, laneRefusal, portRefusal, refuseOr, step}
 use Rattle.dshot_bank_spec.specs.Lists.{isRefused}
 use Rattle.dshot_bank_spec.specs.SentClaim.{sendingCore, ReadsBack, SentReadsBack}
 use Rattle.dshot_bank_spec.proofs.LaneLaws.{on, off, either, under}

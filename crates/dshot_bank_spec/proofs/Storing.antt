@@ -17,7 +17,8 @@ use Rattle.dshot_bank_spec.specs.Commands.{noReplies, commandStop, clear
 use Rattle.dshot_bank_spec.specs.Replies.{countReply, decodeLane, decodeReplies}
 use Rattle.dshot_bank_spec.specs.Send.{Sent, latchFault, exchangeRefused, exchangeBuffers, frameStarted, sendRequested}
 use Rattle.dshot_bank_spec.specs.Service.{Served, repliesRead, readReplies, serviceCore}
-use Rattle.dshot_bank_spec.specs.Calls.{service-call, State, Stepped, act, lengthRefusal, portRefusal, refuseOr, step}
+use Rattle.dshot_bank_spec.specs.Calls.{service-call, State, Stepped, act}
+use Rattle.dshot_bank_spec.specs.Steps.{lengthRefusal, portRefusal, refuseOr, step}
 use Rattle.dshot_bank_spec.specs.Lists.{run, fresh}
 use Rattle.dshot_bank_spec.specs.Claims.{reads, fits, before, Stores}
 use Rattle.dshot_bank_spec.proofs.LaneLaws.{on, either}

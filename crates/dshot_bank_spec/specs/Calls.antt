@@ -1,14 +1,13 @@
--- One call of a bank, whichever it is: refused by the port, or what the source does.
+-- One call of a bank, whichever it is, where nothing is refused by the port: what the source does, the view, and the caller's own lending.
 -- Stands for the calls of `DshotBank` of crates/ferrowasp-stm32-critical/src/dshot_bank.rs (Eirik2020/ferro-wasp, commit 9cb8aca1a6, Copyright (c)
 -- 2026 Kaldstrand, Apache-2.0), changed: rewritten as definitions; the looks and `take_replies` are transcribed here, the others in their own files.
 -- Assumes nothing.
-use Prim.Native.Nat.{ℕ, _*_}
-use mathlib.Core.Bool.{Bool, false, not}
+use Prim.Native.Nat.{ℕ}
+use mathlib.Core.Bool.{Bool, false}
 use mathlib.Core.List.{List, map}
 use mathlib.Core.Option.{Option, none, some}
-use lib.Dec.{eqb, ltb}
-use lib.ListN.{length, getD}
-use Rattle.dshot_reply_spec.specs.Answer.{pick, given, wrongLength}
+use lib.ListN.{getD}
+use Rattle.dshot_reply_spec.specs.Answer.{pick, given}
 use Rattle.dshot_reply_spec.specs.Answer as Reply
 use Rattle.dshot_reply_spec.specs.Value.{Reading}
 use Rattle.dshot_spec.specs.Command.{CommandRun}
@@ -17,7 +16,6 @@ use Rattle.dshot_bank_spec.specs.Lanes.{if_then_else_, isSome}
 use Rattle.dshot_bank_spec.specs.State.{Stats, Core, LaneReply, Bank, Buffers}
 use Rattle.dshot_bank_spec.specs.With.{withFrame, withRepliesHeld, withCore}
 use Rattle.dshot_bank_spec.specs.Order.{Order}
-use Rattle.dshot_bank_spec.specs.Refusals.{noSuchMotor}
 use Rattle.dshot_bank_spec.specs.Commands.{enableBidirectional, commandStop, commandThrottles, commandSpecial, requestTelemetry, cancelTelemetryRequest, clearRequestSent}
 use Rattle.dshot_bank_spec.specs.Service.{ServiceEvent, Served, service}
 use Rattle.dshot_bank_spec.specs.Interrupt.{InterruptEvent, Interrupted, onDmaInterrupt}
@@ -132,51 +130,3 @@ act n s command-pending = told s (flag (isSome (s .bank .core .commandSequence))
 act n s reply-stats = told s (reply-counts (replyStatsOf (s .bank .replies)))
 act n s (sending motor) = told s (slots (sequenceSent (s .bank .core) (s .buffers) motor))
 act n s (lend buffers) = record { answer = done; state = record { bank = s .bank; buffers = buffers } }
-
--- ---- what only the port refuses: a lent buffer of the wrong length, and then a lane that there is not. The source's types allow neither
-
--- the lengths of the two sequence buffers
-abbrev pub slotsFit : ℕ → ℕ → ℕ → Bool
-slotsFit n first second = if eqb first (16 * n) then eqb second (16 * n) else false
-
--- and of the captures
-abbrev pub serviceFits : ℕ → ℕ → ℕ → ℕ → Bool
-serviceFits n first second captures = if slotsFit n first second then eqb captures (160 * n) else false
-
-abbrev pub buffersFit : ℕ → Buffers → Bool
-buffersFit n b = slotsFit n (length (b .first)) (length (b .second))
-
-abbrev pub lengthRefusal : Bool → ℕ → ℕ
-lengthRefusal fit otherwise = if fit then otherwise else wrongLength
-
-abbrev pub laneRefusal : ℕ → ℕ → ℕ
-laneRefusal n motor = if ltb motor n then 0 else noSuchMotor
-
--- the number of the refusal, or 0
-unfoldable pub portRefusal : ℕ → State → Call → ℕ
-portRefusal n s (service-call now taken present masks samples) = lengthRefusal (serviceFits n (length (s .buffers .first)) (length (s .buffers .second)) (length samples)) 0
-portRefusal n s (sending motor) = lengthRefusal (buffersFit n (s .buffers)) (laneRefusal n motor)
-portRefusal n s (command-special motor sequence) = laneRefusal n motor
-portRefusal n s (request-telemetry motor) = laneRefusal n motor
-portRefusal n s (on-dma-interrupt motor complete error turned back) = laneRefusal n motor
-portRefusal n s (enable-bidirectional receives) = 0
-portRefusal n s command-stop = 0
-portRefusal n s (command-throttles commands now lease) = 0
-portRefusal n s cancel-telemetry-request = 0
-portRefusal n s take-telemetry-request-sent = 0
-portRefusal n s take-replies = 0
-portRefusal n s is-bidirectional = 0
-portRefusal n s is-faulted = 0
-portRefusal n s stats = 0
-portRefusal n s requested-values = 0
-portRefusal n s command-pending = 0
-portRefusal n s reply-stats = 0
-portRefusal n s (lend buffers) = 0
-
--- ---- a call of the port
-
-abbrev pub refuseOr : State → ℕ → Stepped → Stepped
-refuseOr s number acted = if eqb number 0 then acted else told s (refused number)
-
-unfoldable pub step : ℕ → State → Call → Stepped
-step n s call = refuseOr s (portRefusal n s call) (act n s call)

@@ -19,8 +19,10 @@ use Rattle.dshot_bank_spec.specs.Lanes.{if_then_else_}
 use Rattle.dshot_bank_spec.specs.State.{Buffers}
 use Rattle.dshot_bank_spec.specs.Commands.{noReplies}
 use Rattle.dshot_bank_spec.specs.Replies.{window, readWindow, countReply}
-use Rattle.dshot_bank_spec.specs.Calls.{Call, service-call, State, Stepped, serviceFits, step}
-use Rattle.dshot_bank_spec.specs.Lists.{trace, run, sourceRun, fresh, isRefused, isLook, acting, actingOf, accepted, acceptedOf, hide, AlikeAll}
+use Rattle.dshot_bank_spec.specs.Calls.{Call, service-call, State, Stepped}
+use Rattle.dshot_bank_spec.specs.Steps.{serviceFits, step}
+use Rattle.dshot_bank_spec.specs.Lists.{trace, run, sourceRun, fresh, isRefused, isLook, acting, actingOf, accepted, acceptedOf}
+use Rattle.dshot_bank_spec.specs.Hide.{hide, AlikeAll}
 
 -- 1: two lists alike but in one lane's captures give, after each call, the same answer, bank and buffers, with that lane's reply and reply counts
 -- hidden; and the calls that only look change nothing, wherever they stand: without them a list has the rest of its trace

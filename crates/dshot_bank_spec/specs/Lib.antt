@@ -10,7 +10,9 @@ pub mod Send
 pub mod Service
 pub mod Interrupt
 pub mod Calls
+pub mod Steps
 pub mod Lists
+pub mod Hide
 pub mod Claims
 pub mod SentClaim
 pub mod LeaseClaim

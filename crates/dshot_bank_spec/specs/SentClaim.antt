@@ -14,7 +14,8 @@ use Rattle.dshot_bank_spec.specs.Order.{Order, start-frame}
 use Rattle.dshot_bank_spec.specs.Commands.{clearRequestSent}
 use Rattle.dshot_bank_spec.specs.Send.{nextSet, kindSent}
 use Rattle.dshot_bank_spec.specs.Service.{ServiceEvent, demandExpired, expireLease, repliesRead}
-use Rattle.dshot_bank_spec.specs.Calls.{service-call, sending, serviced, slots, State, step}
+use Rattle.dshot_bank_spec.specs.Calls.{service-call, sending, serviced, slots, State}
+use Rattle.dshot_bank_spec.specs.Steps.{step}
 
 -- the core with which a service comes to send
 abbrev pub sendingCore : ℕ → ℕ → Core → Core

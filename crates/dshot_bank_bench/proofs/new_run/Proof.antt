@@ -4,7 +4,8 @@ use mathlib.Core.Path.{_∙_, ap}
 use mathlib.Core.Bool.{not}
 use lib.Dec.{eqb}
 use Rattle.dshot_bank_spec.specs.State.{Bank}
-use Rattle.dshot_bank_spec.specs.Calls.{State, Stepped, step, enable-bidirectional}
+use Rattle.dshot_bank_spec.specs.Calls.{State, Stepped, enable-bidirectional}
+use Rattle.dshot_bank_spec.specs.Steps.{step}
 use borrow.Author.Needs.{needs}
 use Rattle.dshot_bank_bench.proofs.new_run.Statement.{statement}
 use Rattle.dshot_bank_bench.proofs.new_run.Tie as tie

@@ -9,7 +9,8 @@ use lib.ListN.{length, take, drop}
 use borrow.Author.Tests.{lt-ltb, le-ltb, not-true, not-false}
 use Rattle.dshot_reply_spec.specs.Answer.{pick}
 use Rattle.dshot_bank_spec.specs.State.{Buffers}
-use Rattle.dshot_bank_spec.specs.Calls.{Stepped, sending, slots, sequenceSent, buffersFit}
+use Rattle.dshot_bank_spec.specs.Calls.{Stepped, sending, slots, sequenceSent}
+use Rattle.dshot_bank_spec.specs.Steps.{buffersFit}
 use Rattle.dshot_bank.proofs.ReplyLaws.{part-is, two-fit, sending-is}
 use Rattle.bank_slots_spec.specs.Memory.{at}
 use Rattle.bank_slots_spec.specs.Places.{IN-SECOND}

@@ -2,7 +2,7 @@
 -- Assumes nothing.
 use mathlib.Core.Path.{ap}
 use Rattle.dshot_bank.proofs.StepLaws.{changed-so}
-use Rattle.dshot_bank_spec.specs.Calls.{step, portRefusal}
+use Rattle.dshot_bank_spec.specs.Steps.{step, portRefusal}
 use Rattle.dshot_bank_spec.specs.Commands.{cancelTelemetryRequest}
 use Rattle.dshot_bank.specs.declared.Requests.{Requests}
 use Rattle.dshot_bank.specs.States.{coreOf}

@@ -1,7 +1,8 @@
 -- `dshot_bank::DshotBank::command_pending` meets its contract: whether there is a run.
 -- Assumes nothing.
 use borrow.Author.Needs.{needs}
-use Rattle.dshot_bank_spec.specs.Calls.{flag, portRefusal, step}
+use Rattle.dshot_bank_spec.specs.Calls.{flag}
+use Rattle.dshot_bank_spec.specs.Steps.{portRefusal, step}
 use Rattle.dshot_bank.specs.States.{stateOf}
 use Rattle.dshot_bank.proofs.DshotBank.command_pending.Statement.{statement}
 use Rattle.dshot_bank.proofs.DshotBank.command_pending.Tie as tie

@@ -4,7 +4,8 @@ use mathlib.Core.Path.{_∙_, refl, sym, ap}
 use Rattle.dshot_bank.proofs.StepLaws.{found-step, missing-step}
 use Prim.Native.Nat.{ℕ}
 use Rattle.dshot.specs.Answers.{runOf}
-use Rattle.dshot_bank_spec.specs.Calls.{command-special, portRefusal}
+use Rattle.dshot_bank_spec.specs.Calls.{command-special}
+use Rattle.dshot_bank_spec.specs.Steps.{portRefusal}
 use Rattle.dshot_bank.specs.States.{choiceOf}
 use borrow.Author.Needs.{needs}
 use Rattle.dshot_bank.proofs.DshotBank.command_special.Statement.{statement}

@@ -1,7 +1,7 @@
 -- `dshot_bank::DshotBank::command_throttles` meets its contract.
 -- Assumes nothing.
 use mathlib.Core.Path.{refl}
-use Rattle.dshot_bank_spec.specs.Calls.{step, portRefusal}
+use Rattle.dshot_bank_spec.specs.Steps.{step, portRefusal}
 use Rattle.dshot_bank.specs.States.{stateOf}
 use borrow.Author.Needs.{needs}
 use Rattle.dshot_bank.proofs.DshotBank.command_throttles.Statement.{statement}

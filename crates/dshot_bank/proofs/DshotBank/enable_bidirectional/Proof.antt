@@ -3,7 +3,8 @@
 use mathlib.Core.Path.{refl, ap}
 use Rattle.dshot_bank.proofs.StepLaws.{refused-so}
 use Rattle.dshot_bank_spec.proofs.LaneLaws.{on, off}
-use Rattle.dshot_bank_spec.specs.Calls.{commanded, step, portRefusal}
+use Rattle.dshot_bank_spec.specs.Calls.{commanded}
+use Rattle.dshot_bank_spec.specs.Steps.{step, portRefusal}
 use Rattle.dshot_bank_spec.specs.Commands.{enableBidirectional}
 use Rattle.dshot_bank.specs.States.{stateOf}
 use Rattle.dshot_bank.proofs.DshotBank.enable_bidirectional.Statement.{statement}

@@ -1,7 +1,7 @@
 -- `dshot_bank::DshotBank::is_faulted` meets its contract: the flag of the frame.
 -- Assumes nothing.
 use mathlib.Core.Path.{refl}
-use Rattle.dshot_bank_spec.specs.Calls.{portRefusal, step}
+use Rattle.dshot_bank_spec.specs.Steps.{portRefusal, step}
 use Rattle.dshot_bank.proofs.DshotBank.is_faulted.Statement.{statement}
 use Rattle.dshot_bank.proofs.DshotBank.is_faulted.Tie as tie
 

@@ -4,7 +4,8 @@ use mathlib.Core.Path.{_∙_, refl, sym, ap}
 use Prim.Native.Nat.{ℕ}
 use mathlib.Core.List.{[]}
 use lib.ListN.{replicate}
-use Rattle.dshot_bank_spec.specs.Calls.{refused, on-dma-interrupt, portRefusal}
+use Rattle.dshot_bank_spec.specs.Calls.{refused, on-dma-interrupt}
+use Rattle.dshot_bank_spec.specs.Steps.{portRefusal}
 use Rattle.dshot_bank_spec.specs.Refusals.{noSuchMotor}
 use Rattle.dshot_bank.specs.States.{motorOf, choiceOf}
 use Rattle.dshot_bank.proofs.OrderLaws.{just}

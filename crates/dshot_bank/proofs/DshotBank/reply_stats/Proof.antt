@@ -6,7 +6,8 @@ use native.Mathlib.Omega.{arith}
 use lib.ListN.{length, getD, length-map}
 use Rattle.dshot_spec.proofs.Tabulated.{Filled, filled-none, filled-more, filled-all}
 use Rattle.dshot_bank_spec.specs.State as Spec
-use Rattle.dshot_bank_spec.specs.Calls.{reply-counts, portRefusal, step}
+use Rattle.dshot_bank_spec.specs.Calls.{reply-counts}
+use Rattle.dshot_bank_spec.specs.Steps.{portRefusal, step}
 use Rattle.dshot_bank.specs.declared.LaneReply.{LaneReply}
 use Rattle.dshot_bank.specs.States.{laneReplyOf, stateOf}
 use Rattle.dshot_bank.specs.Answers.{noLaneReply}

@@ -1,7 +1,8 @@
 -- `dshot_bank::DshotBank::request_telemetry` meets its contract.
 -- Assumes nothing.
 use Rattle.dshot_bank.proofs.StepLaws.{found-step, missing-step}
-use Rattle.dshot_bank_spec.specs.Calls.{request-telemetry, portRefusal}
+use Rattle.dshot_bank_spec.specs.Calls.{request-telemetry}
+use Rattle.dshot_bank_spec.specs.Steps.{portRefusal}
 use mathlib.Core.Path.{refl, _∙_}
 use mathlib.Core.Path.{refl, sym, ap, _∙_}
 use Rattle.dshot_bank.specs.States.{choiceOf}

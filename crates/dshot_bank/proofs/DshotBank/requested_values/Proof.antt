@@ -1,7 +1,7 @@
 -- `dshot_bank::DshotBank::requested_values` meets its contract: the values of the demand.
 -- Assumes nothing.
 use mathlib.Core.Path.{refl}
-use Rattle.dshot_bank_spec.specs.Calls.{portRefusal, step}
+use Rattle.dshot_bank_spec.specs.Steps.{portRefusal, step}
 use Rattle.dshot_bank.proofs.DshotBank.requested_values.Statement.{statement}
 use Rattle.dshot_bank.proofs.DshotBank.requested_values.Tie as tie
 

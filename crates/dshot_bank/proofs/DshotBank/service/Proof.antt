@@ -7,7 +7,8 @@ use borrow.Author.Tests.{not-true, not-false}
 use Rattle.dshot_bank.proofs.OrderLaws.{back, just}
 use Rattle.dshot_bank_spec.specs.State.{Buffers}
 use Rattle.dshot_bank_spec.specs.Order.{Order}
-use Rattle.dshot_bank_spec.specs.Calls.{refused, State, act, lengthRefusal, refuseOr, portRefusal, step, service-call}
+use Rattle.dshot_bank_spec.specs.Calls.{refused, State, act, service-call}
+use Rattle.dshot_bank_spec.specs.Steps.{lengthRefusal, refuseOr, portRefusal, step}
 use Rattle.dshot_bank.specs.States.{stateOf}
 use Rattle.dshot_bank.specs.Serves.{serviceAnswer}
 use Rattle.dshot_bank.proofs.ReplyLaws.{three-fit}

@@ -1,7 +1,7 @@
 -- `dshot_bank::DshotBank::take_telemetry_request_sent` meets its contract.
 -- Assumes nothing.
 use Rattle.dshot_bank.proofs.StepLaws.{changed-so}
-use Rattle.dshot_bank_spec.specs.Calls.{step, portRefusal}
+use Rattle.dshot_bank_spec.specs.Steps.{step, portRefusal}
 use borrow.Author.Needs.{needs}
 use Rattle.dshot_bank.proofs.DshotBank.take_telemetry_request_sent.Statement.{statement}
 use Rattle.dshot_bank.proofs.DshotBank.take_telemetry_request_sent.Tie as tie
