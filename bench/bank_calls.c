@@ -13,7 +13,7 @@
 #define CYCLES called_cycles
 #endif
 
-/* All goes well here. The registers are volatile, so that the compiler neither knows an answer nor leaves out an order. */
+/* All goes well here. The registers are volatile: the compiler neither knows an answer nor leaves out an order. */
 struct hardware {
     volatile uint16_t complete[KUZHENGA_LANES];
     volatile uint16_t failed[KUZHENGA_LANES];
@@ -90,7 +90,7 @@ static inline void start(struct host *host, const struct cycles *cycles)
         unusual(host, kuzhenga_bank_enable_bidirectional(host->bank, KUZHENGA_BANK_SLOTS, 1));
 }
 
-/* Of each lane the completions, the valid and the invalid replies, those since the last valid one, and the last speed. */
+/* The rows of `Left` in bank.rs. */
 static void count(struct host *host, uint32_t counts[24])
 {
     uint16_t stats[KUZHENGA_STATS_SLOTS], replies[KUZHENGA_REPLY_STATS_SLOTS], taken[KUZHENGA_REPLIES_SLOTS];

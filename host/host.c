@@ -33,8 +33,15 @@ static uint16_t bank[KUZHENGA_BANK_SLOTS];
 static uint16_t first[KUZHENGA_BUFFER_SLOTS], second[KUZHENGA_BUFFER_SLOTS];
 static uint16_t samples[KUZHENGA_CAPTURE_SAMPLES];
 
-static const char *const orders[] = {"none",       "exchange_buffer",   "start_dma",       "start_frame", "stop_frame",
-                                     "force_outputs_low", "pause_and_clear", "begin_receive", "end_receive"};
+static const char *const orders[] = {"none",
+                                     "exchange_buffer",
+                                     "start_dma",
+                                     "start_frame",
+                                     "stop_frame",
+                                     "force_outputs_low",
+                                     "pause_and_clear",
+                                     "begin_receive",
+                                     "end_receive"};
 
 /* On a carrier each order goes to the timers and DMA streams; here it is printed. */
 static void obey(const uint16_t *answer)
@@ -45,6 +52,8 @@ static void obey(const uint16_t *answer)
         if (kuzhenga_order_kind(order) == KUZHENGA_EXCHANGE_BUFFER || kuzhenga_order_kind(order) == KUZHENGA_START_DMA
             || kuzhenga_order_kind(order) == KUZHENGA_PAUSE_AND_CLEAR)
             printf(":%u", kuzhenga_order_lane(order));
+        for (unsigned n = 0; kuzhenga_order_kind(order) == KUZHENGA_START_FRAME && n < KUZHENGA_LANES; n++)
+            printf(" %u", answer[KUZHENGA_FIRST_DUTY + n]);
     }
     printf("\n");
 }
@@ -121,7 +130,7 @@ static uint32_t print_replies(void)
 
 static uint32_t drive(void)
 {
-    static const uint16_t throttles[KUZHENGA_LANES] = {100, 200, 300, 400};
+    static const uint16_t throttles[KUZHENGA_LANES] = {100, 200, 300, 1500};
     uint16_t timing[KUZHENGA_TIMING_SLOTS];
     uint32_t r;
     if ((r = kuzhenga_timing_from_clocks(168000000, 600000, timing, KUZHENGA_TIMING_SLOTS)) != KUZHENGA_DONE)
