@@ -171,7 +171,7 @@ decoded w v e =
 -- ---- 6: the readings
 
 -- to add half of the divisor rounds to the nearest
-rounded : (a p : ℕ) → Nearest.nearest a p ≡ nearest a p
+pub rounded : (a p : ℕ) → Nearest.nearest a p ≡ nearest a p
 rounded a p =
     let e : a + p / 2 ≡ (2 * a + p) / 2 = omega arith in
     ap (λ (n : ℕ). n / p) e ∙ div-div-eq-div-mul (2 * a + p) 2 p

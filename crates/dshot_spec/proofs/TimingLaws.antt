@@ -1,14 +1,15 @@
 -- Quotients to the nearest, and the laws of a timing that is given: its clocks, its counts, its high times and its shortest period.
 -- Assumes nothing.
-use mathlib.Core.Path.{_≡_, ap, _∙_}
+use mathlib.Core.Path.{_≡_}
 use Prim.Native.Nat.{ℕ, _+_, _*_, _/_, _^_, _<_, _≤_}
-use native.Mathlib.Nat.{div-div-eq-div-mul, div-lt-iff-lt-mul, le-div-iff-mul-le, mul-le-mul-left}
+use native.Mathlib.Nat.{div-lt-iff-lt-mul, le-div-iff-mul-le, mul-le-mul-left}
 use native.Mathlib.Omega.{arith}
 use lib.Dec.{eqb, ltb, lit<}
 use mathlib.Core.Bool.{Bool, true, false}
 use borrow.Author.Tests.{eqb-false, ltb-false}
 use Rattle.dshot_reply_spec.specs.Answer.{given, periodTooLong, periodTooShort, zeroBitrate, zeroTimerClock}
 use Rattle.dshot_reply_spec.specs.Nearest.{nearest}
+use Rattle.dshot_reply_spec.proofs.Documents.{rounded}
 use Rattle.dshot_reply_spec.proofs.Given.{second-given}
 use Rattle.dshot_spec.specs.Timing.{ClocksGiven, Timing, dutyForBit, fromClocks, replySampleHz}
 use Rattle.dshot_spec.specs.Betaflight.{NearestTick, highEighths}
@@ -17,9 +18,7 @@ use Rattle.dshot_spec.specs.Betaflight.{NearestTick, highEighths}
 
 -- to add half of the divisor, cut to an integer, rounds halves up
 pub halves-up : (a b : ℕ) → nearest a b ≡ (2 * a + b) / (2 * b)
-halves-up a b =
-    let e : a + b / 2 ≡ (2 * a + b) / 2 = omega arith in
-    ap (λ (n : ℕ). n / b) e ∙ div-div-eq-div-mul (2 * a + b) 2 b
+halves-up = rounded
 
 -- a quotient is at most the number divided
 pub nearest-le : (a b : ℕ) → 0 < b → nearest a b ≤ a
