@@ -105,12 +105,9 @@ fn unusual(hardware: &impl Hardware, number: u32) {
 
 /// Whether the throttles were refused.
 #[inline(never)]
-fn command<H: Hardware>(
-    bank: &mut DshotBank<Lanes<H>>,
-    throttles: &[u16; 4],
-    now_ms: u64,
-) -> bool {
-    bank.command_throttles(*throttles, now_ms, LEASE_MS).is_err()
+fn command<H: Hardware>(bank: &mut DshotBank<Lanes<H>>, throttles: &[u16; 4], now_ms: u64) -> bool {
+    bank.command_throttles(*throttles, now_ms, LEASE_MS)
+        .is_err()
 }
 
 #[inline(never)]

@@ -78,5 +78,7 @@ fn whole(cycles: &Cycles, left: &Left) -> bool {
 
 /// The two sides are measured only where they give the same answers.
 pub fn agree() -> bool {
-    runs().iter().all(|(_, cycles, sides)| same(cycles, *sides) && same(cycles, SUMMED))
+    runs()
+        .iter()
+        .all(|(_, cycles, sides)| same(cycles, *sides) && same(cycles, SUMMED))
 }

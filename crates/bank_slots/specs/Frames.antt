@@ -1,4 +1,4 @@
--- What the private functions that send a frame set return, in the terms of the definitions.
+-- What the private functions that send a frame set return, in the terms of the definitions. Only private functions cite this.
 -- Assumes nothing.
 use Prim.Native.Nat.{ℕ, _<_}
 use mathlib.Core.Path.{_≡_}

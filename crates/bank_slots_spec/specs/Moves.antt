@@ -1,4 +1,4 @@
--- What a call does to the slots of a bank.
+-- What a step of a call does to the slots of a bank. Only private functions cite this.
 -- Assumes nothing.
 use Prim.Native.Nat.{ℕ}
 use mathlib.Core.Path.{_≡_}

@@ -1,4 +1,4 @@
--- What the code that sends a frame set returns, in the terms of the definitions.
+-- What the code that sends a frame set returns, in the terms of the definitions. Only private functions cite this.
 -- Assumes nothing.
 use mathlib.Core.Path.{_≡_}
 use mathlib.Core.Option.{Option, none, some}

@@ -30,7 +30,7 @@ pub extern "C" fn kuzhenga_bank_from_lanes(timing: &[u16], bank: &mut [u16]) -> 
     commands::from_lanes(timing, bank)
 }
 
-// Switches to bidirectional DShot, before the first frame.
+// Switches to bidirectional DShot: meant for before the first frame, and not refused later.
 #[no_mangle]
 pub extern "C" fn kuzhenga_bank_enable_bidirectional(bank: &mut [u16], receives_replies: u32) -> u32
     ensures { λ r. ⌜ ((b : Buffers) → r ≡ number (answerOf (fit (now (bank .entry)) true) (stateAt (now (bank .entry)) b) (Call.enable-bidirectional (not (eqb «receives_replies» 0))))) ⌝ }
