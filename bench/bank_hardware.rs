@@ -65,7 +65,6 @@ pub struct Registers {
     order: Cell<u32>,
 }
 
-#[derive(Clone)]
 struct Register(Cell<u16>);
 
 impl Register {
