@@ -6,7 +6,7 @@ use mathlib.Core.Option.{Option, none, some}
 use Rattle.dshot.specs.Answers.{laneOf}
 use Rattle.dshot_bank_spec.specs.State.{Core}
 use Rattle.dshot_bank_spec.specs.Commands.{MotorCommand}
-use Rattle.dshot_bank_spec.specs.Send.{frameSet}
+use Rattle.dshot_bank_spec.specs.FrameSet.{frameSet}
 use Rattle.bank_slots_spec.specs.Parts.{carriedBy}
 use Rattle.bank_slots.specs.declared.send.FrameCommand.{FrameCommand}
 use Rattle.bank_slots.specs.declared.send.FrameCommand.the-variants as FrameCommand·

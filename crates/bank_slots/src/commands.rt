@@ -43,7 +43,8 @@ ghost use Rattle.bank_slots_spec.specs.Load.{choice, timingAt, load};
 ghost use Rattle.bank_slots_spec.specs.Store.{store};
 ghost use Rattle.bank_slots_spec.specs.Moves.{Moves, onCore};
 ghost use Rattle.bank_slots_spec.specs.Called.{Called, fit, sized, stateAt, answerOf, number};
-ghost use Rattle.bank_slots_spec.specs.Outs.{motorSlots, outAfter, runGiven};
+ghost use Rattle.bank_slots_spec.specs.Outs.{motorSlots, outAfter};
+ghost use Rattle.bank_slots_spec.specs.Arguments.{runGiven};
 ghost use Rattle.bank_slots_spec.specs.Parts.{demanded, queued};
 
 // The stored reply of a lane of which no window has been read.

@@ -27,7 +27,7 @@ ghost use Rattle.bank_slots_spec.specs.Places.{slots};
 ghost use Rattle.bank_slots_spec.specs.Store.{replyKind, replyNumber, laneRows};
 ghost use Rattle.bank_slots_spec.specs.Load as Load;
 ghost use Rattle.bank_slots_spec.specs.Moves.{Moves};
-ghost use Rattle.bank_slots_spec.specs.Outs.{present, masks};
+ghost use Rattle.bank_slots_spec.specs.Arguments.{present, masks};
 ghost use Rattle.bank_slots_spec.specs.Load.{laneFrom};
 ghost use Rattle.bank_slots_spec.specs.Parts.{withReplies, windowsRead};
 

@@ -48,7 +48,8 @@ ghost use Rattle.bank_slots_spec.specs.Load.{load};
 ghost use Rattle.bank_slots_spec.specs.Moves.{Moves, onCore};
 ghost use Rattle.bank_slots_spec.specs.Handles.{Skips, Serves};
 ghost use Rattle.bank_slots_spec.specs.Called.{Called, fit, sized, stateAt, answerOf, buffersAfter};
-ghost use Rattle.bank_slots_spec.specs.Outs.{taken, present, masks, outAfter};
+ghost use Rattle.bank_slots_spec.specs.Outs.{outAfter};
+ghost use Rattle.bank_slots_spec.specs.Arguments.{taken, present, masks};
 
 fn expired(state: &[u16], now_ms: u64) -> bool
     requires { ⌜ length (now state) ≡ slots ⌝ }

@@ -22,7 +22,8 @@ use Rattle.bank_slots_spec.specs.Load.{flag, choice, timingAt, load}
 use Rattle.bank_slots_spec.specs.Store.{store}
 use Rattle.bank_slots_spec.specs.Moves.{Moves, onCore}
 use Rattle.bank_slots_spec.specs.Called.{Called, fit, sized, number, stateAt, answerOf}
-use Rattle.bank_slots_spec.specs.Outs.{motorSlots, outAfter, runGiven}
+use Rattle.bank_slots_spec.specs.Outs.{motorSlots, outAfter}
+use Rattle.bank_slots_spec.specs.Arguments.{runGiven}
 use Rattle.bank_slots_spec.specs.Parts.{demanded, queued}
 use Rattle.bank_slots_spec.proofs.MoveLaws.{moves-as}
 use Rattle.bank_slots_spec.proofs.CalledLaws.{state-fits, other-short, answer-fits, called-refused, called-done, out-filled}

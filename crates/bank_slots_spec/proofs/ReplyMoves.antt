@@ -29,7 +29,7 @@ use Rattle.bank_slots_spec.specs.Storable.{ReplyFits}
 use Rattle.bank_slots_spec.specs.Moves.{Moves, onCore}
 use Rattle.bank_slots_spec.specs.Load.{laneFrom}
 use Rattle.bank_slots_spec.specs.Parts.{withReplies, windowsRead}
-use Rattle.bank_slots_spec.specs.Outs.{present, masks}
+use Rattle.bank_slots_spec.specs.Arguments.{present, masks}
 use Rattle.bank_slots_spec.proofs.MemoryLaws.{length-write, word-back}
 use Rattle.bank_slots_spec.proofs.MoveLaws.{moves-write, moves-then, moves-as, moves-at, stays}
 use Rattle.bank_slots_spec.proofs.FieldLaws.{reply-back, reply-written}

@@ -20,7 +20,8 @@ use Rattle.dshot_bank_spec.specs.State.{Telemetry, Stats, MotorRun, Core, Bank,
 use Rattle.dshot_bank_spec.specs.With.{withFramesStarted, withStartedMs, withCompletionMask, withBusy, withInSecond, withTelemetry, withCommandSequence, withFrame, withStats, withCore}
 use Rattle.dshot_bank_spec.specs.Order.{startOrders, refusedOrders}
 use Rattle.dshot_bank_spec.specs.Commands.{MotorCommand, NextFrame, nextOf, nextOfRun, nextCommandFrame}
-use Rattle.dshot_bank_spec.specs.Send.{FrameSet, asLane, frameSet, nextSet, kindSent, packetsSent, firstDuties, encodeLanes, sentBuffers, Sent, latchFault, exchangeRefused, frameStarted, exchangeBuffers, sendRequested}
+use Rattle.dshot_bank_spec.specs.FrameSet.{FrameSet, asLane, frameSet, nextSet, kindSent, packetsSent, firstDuties, encodeLanes}
+use Rattle.dshot_bank_spec.specs.Send.{sentBuffers, Sent, latchFault, exchangeRefused, frameStarted, exchangeBuffers, sendRequested}
 use Rattle.dshot_bank_spec.specs.Replies.{wrappingAdd}
 use Rattle.dshot_bank_spec.specs.Service.{frame-started, lease-expired, faulted, sentEvent, sending}
 use Rattle.dshot_bank_spec.specs.Steps.{buffersFit}
@@ -32,7 +33,8 @@ use Rattle.bank_slots_spec.specs.Store.{bit}
 use Rattle.bank_slots_spec.specs.Written.{WrittenAt}
 use Rattle.bank_slots_spec.specs.Moves.{Moves, onCore}
 use Rattle.bank_slots_spec.specs.Parts.{bumped, runStepped, marksTurned, carriedBy, requestCarried, inFlight}
-use Rattle.bank_slots_spec.specs.Outs.{taken, codes, serviceEvent, serviceSlots}
+use Rattle.bank_slots_spec.specs.Outs.{codes, serviceEvent, serviceSlots}
+use Rattle.bank_slots_spec.specs.Arguments.{taken}
 use Rattle.bank_slots_spec.specs.Handles.{Serves}
 use Rattle.bank_slots_spec.proofs.MemoryLaws.{length-write}
 use Rattle.bank_slots_spec.proofs.CommandMoves.{values-part}

@@ -29,7 +29,8 @@ use Rattle.bank_slots_spec.specs.Load.{load, flag}
 use Rattle.bank_slots_spec.specs.Moves.{Moves, onCore}
 use Rattle.bank_slots_spec.specs.Parts.{bumped, windowsRead}
 use Rattle.bank_slots_spec.specs.Called.{Called, fit, sized, number, stateAt, answerOf, buffersAfter}
-use Rattle.bank_slots_spec.specs.Outs.{serviceSlots, taken, present, masks, outAfter}
+use Rattle.bank_slots_spec.specs.Outs.{serviceSlots, outAfter}
+use Rattle.bank_slots_spec.specs.Arguments.{taken, present, masks}
 use Rattle.bank_slots_spec.specs.Handles.{Skips, Serves}
 use Rattle.bank_slots_spec.proofs.MoveLaws.{moves-then, moves-as, moves-at, stays, counted}
 use Rattle.bank_slots_spec.proofs.CalledLaws.{state-short, state-fits, other-short, answer-unfit, answer-fits, buffers-unfit, buffers-fits, called-unfit, called-refused, called-done, out-kept, out-filled}

@@ -8,6 +8,7 @@ pub mod Moves
 pub mod Called
 pub mod Parts
 pub mod Outs
+pub mod Arguments
 pub mod Handles
 pub mod SlotLists
 pub mod SlotClaims

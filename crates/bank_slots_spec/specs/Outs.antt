@@ -1,8 +1,7 @@
 -- How an exported call of a bank puts its answer into the slots that it is lent.
 -- Added, for the calls that document 01 asks for from C.
 -- Assumes nothing.
-use Prim.Native.Nat.{ℕ, _+_, _-_, _*_, _/_, _%_, min}
-use mathlib.Core.Bool.{Bool, true, false}
+use Prim.Native.Nat.{ℕ, _+_, _-_, _/_, _%_}
 use mathlib.Core.List.{List, [], _∷_, _++_, map}
 use mathlib.Core.Option.{Option, none, some}
 use lib.Dec.{eqb}
@@ -11,7 +10,6 @@ use Rattle.dshot_reply_spec.specs.Answer.{given, refused, pick, noReply}
 use Rattle.dshot_reply_spec.specs.Answer as Reply
 use Rattle.dshot_reply_spec.specs.Value.{Reading}
 use Rattle.dshot_reply_spec.specs.Kind.{kindNumber, readingNumber}
-use Rattle.dshot_spec.specs.Command.{CommandRun}
 use Rattle.dshot_bank_spec.specs.State.{Stats}
 use Rattle.dshot_bank_spec.specs.Order.{Order}
 use Rattle.dshot_bank_spec.specs.OrderNumber.{code, dutiesIn}
@@ -22,7 +20,7 @@ use Rattle.dshot_bank_spec.specs.Interrupt as Interrupt
 use Rattle.dshot_bank_spec.specs.Calls.{Answer, done, motor-sent, serviced, interrupted, replied, counts, values, reply-counts, slots, ReplyStats}
 use Rattle.dshot_bank_spec.specs.Calls as Call
 use Rattle.bank_slots_spec.specs.Load.{flag, four, fourLists}
-use Rattle.bank_slots_spec.specs.Store.{bit, choiceSlot, replyKind, replyNumber}
+use Rattle.bank_slots_spec.specs.Store.{bit}
 use Rattle.bank_slots_spec.specs.Called.{number}
 
 -- ---- events and orders
@@ -106,19 +104,3 @@ slotsOf (slots l) = l
 -- what lent slots hold after an answer: what is made of it, or what they held before where it is a refusal
 unfoldable pub outAfter : Answer → List ℕ → List ℕ
 outAfter a before = pick (eqb (number a) 0) (slotsOf a) before
-
--- ---- what the hardware answered, in twelve slots: for each lane whether it took its buffer, whether it has a capture, and its mask
-
-abbrev pub taken : List ℕ → List Bool
-taken xs = four (λ (i : ℕ). flag (getD xs i 0))
-
-abbrev pub present : List ℕ → List Bool
-present xs = four (λ (i : ℕ). flag (getD xs (4 + i) 0))
-
-abbrev pub masks : List ℕ → List ℕ
-masks xs = four (λ (i : ℕ). getD xs (8 + i) 0)
-
--- ---- a run of two commands, in four slots: the commands, the index and how often the command is still to be sent. An index above 255 is spent,
--- as 255 is, and of the last slot the low eight bits count, as in the exported call that steps a run
-abbrev pub runGiven : List ℕ → CommandRun
-runGiven xs = record { commands = getD xs 0 0 ∷ getD xs 1 0 ∷ []; index = min (getD xs 2 0) 255; repeatsLeft = getD xs 3 0 % 256 }

@@ -17,7 +17,8 @@ use Rattle.capture_file.proofs.HeadLaws.{head-few}
 use Rattle.capture_file.proofs.ReadBack.{file-most}
 use Rattle.capture_file.proofs.ReadLaws.{groups-start}
 use Rattle.capture_file.proofs.WriteLaws.{put-first}
-use Rattle.capture_file.specs.File.{fileSamples, fileBytes, readNumber, readAll, Capture, capture, Head, readHead, readFile}
+use Rattle.capture_file.specs.Groups.{readNumber, readAll}
+use Rattle.capture_file.specs.File.{fileSamples, fileBytes, Capture, capture, Head, readHead, readFile}
 use Rattle.capture_file.specs.File.{fileOf, front, slotsOf, readInto, writtenInto, Told, told, byteCount}
 use Rattle.capture_file.specs.FileSteps.{put}
 

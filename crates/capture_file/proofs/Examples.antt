@@ -6,7 +6,8 @@ use mathlib.Core.List.{List, [], _∷_}
 use Prim.Native.Nat.{ℕ}
 use lib.ListN.{replicate}
 use Rattle.dshot_reply_spec.specs.Answer.{Answer, given, refused, notACapture}
-use Rattle.capture_file.specs.File.{groups, readNumber, Capture, capture, fileOf, readHead, readFile}
+use Rattle.capture_file.specs.Groups.{groups, readNumber}
+use Rattle.capture_file.specs.File.{Capture, capture, fileOf, readHead, readFile}
 
 -- bytes, and what they read as
 pub record Example : Type 0 where

@@ -8,7 +8,8 @@ use borrow.Author.Tests.{lt-ltb, le-ltb, ltb-false}
 use Rattle.dshot_reply_spec.specs.Answer.{given, refused, notACapture}
 use Rattle.dshot_reply_spec.proofs.Given.{second-given, then-given}
 use Rattle.capture_file.proofs.AnswerLaws.{same-given}
-use Rattle.capture_file.specs.File.{fileSamples, Headed, readNumber, Head, readHead}
+use Rattle.capture_file.specs.Groups.{Headed, readNumber}
+use Rattle.capture_file.specs.File.{fileSamples, Head, readHead}
 
 pub no-count : (bytes : List ℕ) → readNumber bytes ≡ refused notACapture → readHead bytes ≡ refused notACapture
 unfolding readHead

@@ -13,7 +13,8 @@ use Rattle.dshot_reply_spec.proofs.Cases.{lt-or-ge}
 use Rattle.dshot_reply_spec.proofs.Choice.{not-both}
 use Rattle.dshot_reply_spec.proofs.Given.{second-given, then-given}
 use Rattle.capture_file.proofs.AnswerLaws.{same-given}
-use Rattle.capture_file.specs.File.{groups, Headed, headed, readGroups, readNumber, UpTo}
+use Rattle.capture_file.specs.Groups.{groups, Headed, headed, readGroups, readNumber}
+use Rattle.capture_file.specs.File.{UpTo}
 
 -- ---- the groups of a number
 

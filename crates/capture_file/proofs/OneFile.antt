@@ -14,7 +14,8 @@ use Rattle.dshot_reply_spec.proofs.Given.{then-given}
 use Rattle.capture_file.proofs.AnswerLaws.{same-given}
 use Rattle.capture_file.proofs.NumberLaws.{number-written}
 use Rattle.capture_file.proofs.HeadLaws.{parts}
-use Rattle.capture_file.specs.File.{fileSamples, groups, Headed, readNumber, readAll, Capture, UpTo, Valid, allGroups, fileOf}
+use Rattle.capture_file.specs.Groups.{groups, Headed, readNumber, readAll}
+use Rattle.capture_file.specs.File.{fileSamples, Capture, UpTo, Valid, allGroups, fileOf}
 use Rattle.capture_file.specs.File.{Head, readHead, readFile}
 
 up-to-rest : (n : ℕ) (xs ys : List ℕ) → UpTo n (xs ++ ys) → UpTo n ys

@@ -10,7 +10,8 @@ use lib.ListN.{length, length-append}
 use borrow.Author.Tests.{le-ltb}
 use Rattle.dshot_reply_spec.specs.Answer.{given, pick}
 use Rattle.capture_file.proofs.NumberLaws.{groups-one, groups-count, groups-short, number-read}
-use Rattle.capture_file.specs.File.{fileSamples, fileBytes, groups, readAll, readHead, readFile}
+use Rattle.capture_file.specs.Groups.{groups, readAll}
+use Rattle.capture_file.specs.File.{fileSamples, fileBytes, readHead, readFile}
 use Rattle.capture_file.specs.File.{Capture, UpTo, Valid, allGroups, fileOf}
 
 -- ---- the samples

@@ -16,7 +16,7 @@ use Rattle.dshot_reply_spec.specs.Answer.{Answer, given, refused, then, pick, n
 use Rattle.dshot_reply_spec.proofs.Cases.{lt-or-ge}
 use Rattle.capture_file.proofs.AnswerLaws.{same-given, Read, found, lacking, read-then, read-pick}
 use Rattle.capture_file.proofs.NumberLaws.{last-group, longer, more-groups, longer-given, longer-from, pos}
-use Rattle.capture_file.specs.File.{Headed, headed, readGroups, readNumber}
+use Rattle.capture_file.specs.Groups.{Headed, headed, readGroups, readNumber}
 
 -- ---- one, two or three groups
 

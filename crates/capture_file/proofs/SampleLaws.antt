@@ -17,7 +17,8 @@ use Rattle.dshot_reply_spec.proofs.Choice.{not-both}
 use Rattle.dshot_reply_spec.proofs.Given.{then-given}
 use Rattle.capture_file.proofs.AnswerLaws.{same-given, is-given}
 use Rattle.capture_file.proofs.WriteLaws.{put-one, put-put, put-none, put-first}
-use Rattle.capture_file.specs.File.{Headed, headed, readNumber, readAll, front}
+use Rattle.capture_file.specs.Groups.{Headed, headed, readNumber, readAll}
+use Rattle.capture_file.specs.File.{front}
 use Rattle.capture_file.specs.FileSteps.{put}
 
 -- ---- the next sample that is read

@@ -8,7 +8,8 @@ use native.Mathlib.Nat.{add-zero, zero-add}
 use native.Mathlib.Numerals.{add-one, add-two}
 use lib.ListN.{length, take, drop, set, getD, length-append, take-append-drop}
 use lib.Seq.{drop-cons, sets-eq, take-at, drop-at, drop-drop, length-take-le}
-use Rattle.capture_file.specs.File.{groups, allGroups, front}
+use Rattle.capture_file.specs.Groups.{groups}
+use Rattle.capture_file.specs.File.{allGroups, front}
 use Rattle.capture_file.specs.FileSteps.{put}
 
 -- ---- stores

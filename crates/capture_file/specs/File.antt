@@ -1,11 +1,12 @@
--- A capture file, added by document 01: how many samples, the pin mask, EDT and then the samples, each a number in groups of seven bits.
+-- A capture file, added by document 01: how many samples, the pin mask, EDT and then the samples.
 -- Assumes nothing.
-use Prim.Native.Nat.{ℕ, zero, suc, _+_, _-_, _*_, _/_, _%_, _≤_}
+use Prim.Native.Nat.{ℕ, _+_, _-_, _≤_}
 use mathlib.Core.Bool.{Bool}
 use mathlib.Core.List.{List, [], _∷_, _++_}
 use lib.Dec.{eqb, ltb}
 use lib.ListN.{length, drop}
 use Rattle.dshot_reply_spec.specs.Answer.{Answer, given, refused, then, pick, notACapture, wrongLength}
+use Rattle.capture_file.specs.Groups.{groups, readNumber, readAll}
 
 -- the most samples that a file holds, and the most bytes that it has then
 abbrev pub fileSamples : ℕ
@@ -13,43 +14,6 @@ fileSamples = 4096
 
 abbrev pub fileBytes : ℕ
 fileBytes = 12294
-
--- ---- a number
-
--- a number up to 65535 in one, two or three groups of seven bits, lowest first, 128 added to all groups but the last
-unfoldable pub groups : ℕ → List ℕ
-groups n =
-    pick (ltb n 128) (n ∷ [])
-    (pick (ltb n 16384) ((128 + n % 128) ∷ n / 128 ∷ [])
-    ((128 + n % 128) ∷ (128 + n / 128 % 128) ∷ n / 16384 ∷ []))
-
--- a number at the head of bytes, and the bytes after it
-pub record Headed : Type 0 where
-  pub number : ℕ
-  pub rest : List ℕ
-
-abbrev pub headed : ℕ → List ℕ → Headed
-headed n s = record { number = n; rest = s }
-
--- a byte below 128 is a number; any other is the lowest seven bits of one, and a number that is not 0 follows, which makes the form the shortest
-abbrev pub readGroups : List ℕ → Answer Headed
-readGroups [] = refused notACapture
-readGroups (b ∷ s) =
-    pick (ltb b 128) (given (headed b s))
-    (then (readGroups s) (λ r.
-    pick (eqb (r .number) 0) (refused notACapture) (given (headed (b - 128 + 128 * r .number) (r .rest)))))
-
--- the same up to 65535, so in three groups at most
-unfoldable pub readNumber : List ℕ → Answer Headed
-readNumber bytes = then (readGroups bytes) (λ r. pick (ltb 65535 (r .number)) (refused notACapture) (given r))
-
--- n numbers, and nothing after them
-abbrev pub readAll : ℕ → List ℕ → Answer (List ℕ)
-readAll zero [] = given []
-readAll zero (b ∷ s) = refused notACapture
-readAll (suc n) s = then (readNumber s) (λ r. then (readAll n (r .rest)) (λ xs. given (r .number ∷ xs)))
-
--- ---- a file
 
 pub record Capture : Type 0 where
   pub mask : ℕ

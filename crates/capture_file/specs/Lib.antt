@@ -1,3 +1,4 @@
+pub mod Groups
 pub mod File
 pub mod FileAnswers
 pub mod FileSteps

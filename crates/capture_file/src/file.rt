@@ -8,7 +8,8 @@ ghost use mathlib.Core.Bool.{true};
 ghost use Prim.Native.Nat.{_+_, _≤_};
 ghost use lib.ListN.{length, drop};
 ghost use Rattle.dshot_reply_spec.specs.Answer.{then, pick, isGiven, filled};
-ghost use Rattle.capture_file.specs.File.{allGroups, capture, readHead, readAll, front, slotsOf, readInto, writtenInto, told, byteCount};
+ghost use Rattle.capture_file.specs.Groups.{readAll};
+ghost use Rattle.capture_file.specs.File.{allGroups, capture, readHead, front, slotsOf, readInto, writtenInto, told, byteCount};
 ghost use Rattle.capture_file.specs.FileAnswers.{readAnswer, writtenAnswer};
 ghost use Rattle.capture_file.specs.FileSteps.{put, headAnswer};
 

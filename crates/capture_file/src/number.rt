@@ -3,7 +3,7 @@
 ghost use mathlib.Core.Path.{_≡_};
 ghost use Prim.Native.Nat.{_+_, _≤_};
 ghost use lib.ListN.{length, drop, getD};
-ghost use Rattle.capture_file.specs.File.{groups, readNumber};
+ghost use Rattle.capture_file.specs.Groups.{groups, readNumber};
 ghost use Rattle.capture_file.specs.FileSteps.{put, numberAnswer};
 
 // The byte at a place, and 0 past the end.

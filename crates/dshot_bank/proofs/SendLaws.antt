@@ -12,7 +12,7 @@ use Rattle.dshot_reply_spec.specs.Answer.{Answer, given, refused, pick, filled}
 use Rattle.dshot_reply_spec.proofs.Choice.{not-both}
 use Rattle.dshot_spec.specs.Timing.{Timing}
 use Rattle.dshot_spec.specs.Sequence.{Sequence, sequenceOf, encodedSequence, firstDuty}
-use Rattle.dshot_bank_spec.specs.Send.{putSlots}
+use Rattle.dshot_bank_spec.specs.FrameSet.{putSlots}
 use Rattle.dshot_bank.proofs.ReplyLaws.{part-size}
 
 -- a refused choice is the other

@@ -5,6 +5,7 @@ use mathlib.Core.Option.{Option, none, some}
 use Rattle.dshot.specs.Answers.{laneOf}
 use Rattle.dshot_bank_spec.specs.Commands.{MotorCommand}
 use Rattle.dshot_bank_spec.specs.Commands as Spec
+use Rattle.dshot_bank_spec.specs.FrameSet as Sets
 use Rattle.dshot_bank_spec.specs.Send as Send
 use Rattle.dshot_bank.specs.declared.send.FrameCommand.{FrameCommand}
 use Rattle.dshot_bank.specs.declared.send.FrameCommand.the-variants as FrameCommand·
@@ -23,7 +24,7 @@ motorCommandOf (FrameCommand·.Some m v) = some (record { motor = motorOf m; com
 abbrev pub nextFrameOf : NextFrame → Spec.NextFrame
 nextFrameOf n = record { command = motorCommandOf (n .command); left = commandSequenceOf (n .left) }
 
-abbrev pub frameSetOf : FrameSet → Send.FrameSet
+abbrev pub frameSetOf : FrameSet → Sets.FrameSet
 frameSetOf f = record { values = f .values; telemetryLane = laneOf (f .«telemetry_lane»); telemetryRequest = choiceOf (f .«telemetry_request») }
 
 -- the same start, orders with their first duties, and core

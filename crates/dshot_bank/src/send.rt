@@ -41,7 +41,8 @@ ghost use Rattle.dshot_bank_spec.specs.With.{withFramesStarted, withFrame, with
 ghost use Rattle.dshot_bank_spec.specs.Steps.{slotsFit};
 ghost use Rattle.dshot_bank_spec.specs.Commands.{nextOf, nextOfRun, nextCommandFrame};
 ghost use Rattle.dshot_bank_spec.specs.Replies.{wrappingAdd};
-ghost use Rattle.dshot_bank_spec.specs.Send.{countFault, latchFault, frameSet, kindSent, firstDuties, writeSpare, encodeLanes, turnMarks, carry, exchangeRefused, frameStarted, exchangeBuffers, sendRequested, sentBuffers, asLane};
+ghost use Rattle.dshot_bank_spec.specs.FrameSet.{frameSet, kindSent, firstDuties, writeSpare, encodeLanes, asLane};
+ghost use Rattle.dshot_bank_spec.specs.Send.{countFault, latchFault, turnMarks, carry, exchangeRefused, frameStarted, exchangeBuffers, sendRequested, sentBuffers};
 ghost use Rattle.dshot_bank.specs.States.{motorOf, choiceOf, telemetryOf, commandSequenceOf, frameOf, statsOf, coreOf};
 ghost use Rattle.dshot_bank.specs.Sends.{nextFrameOf, motorCommandOf, frameSetOf, Sends};
 

@@ -10,7 +10,7 @@ use Rattle.dshot_bank_spec.specs.State.{Demand, MotorRun, Core}
 use Rattle.dshot_bank_spec.specs.Lanes.{if_then_else_}
 use Rattle.dshot_bank_spec.specs.With.{withFrame, withRepliesHeld, withRepliesWaiting}
 use Rattle.dshot_bank_spec.specs.Commands.{MotorCommand, anyRequested, commandStop, clearRequestSent, nextOfRun, nextCommandFrame}
-use Rattle.dshot_bank_spec.specs.Send.{frameSet, nextSet}
+use Rattle.dshot_bank_spec.specs.FrameSet.{frameSet, nextSet}
 use Rattle.dshot_bank_spec.specs.Service.{demandExpired, expireLease, repliesRead}
 use Rattle.dshot_bank_spec.specs.SentClaim.{sendingCore}
 use Rattle.dshot_bank_spec.specs.LeaseClaim.{noThrottle, LeaseEnds}

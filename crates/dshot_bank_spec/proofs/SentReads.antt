@@ -24,7 +24,8 @@ use Rattle.dshot_bank_spec.specs.State.{Frame, Core, LaneReply, Buffers}
 use Rattle.dshot_bank_spec.specs.With.{withCommandSequence}
 use Rattle.dshot_bank_spec.specs.Order.{Order, exchange-buffer, start-dma, start-frame, stop-frame, force-outputs-low, pause-and-clear, begin-receive, end-receive, latchOrders, startOrders}
 use Rattle.dshot_bank_spec.specs.Commands.{clearRequestSent, nextCommandFrame}
-use Rattle.dshot_bank_spec.specs.Send.{nextSet, kindSent, packetsSent, firstDuties, encodeLanes, turnMarks, Sent, exchangeRefused, frameStarted, exchangeBuffers, sendRequested, sentBuffers}
+use Rattle.dshot_bank_spec.specs.FrameSet.{nextSet, kindSent, packetsSent, firstDuties, encodeLanes}
+use Rattle.dshot_bank_spec.specs.Send.{turnMarks, Sent, exchangeRefused, frameStarted, exchangeBuffers, sendRequested, sentBuffers}
 use Rattle.dshot_bank_spec.specs.Service.{Served, Skipped, skipped, unsent, faulted, serviceBusy, demandExpired, repliesRead, readReplies, serviceCore}
 use Rattle.dshot_bank_spec.specs.Calls.{service-call, sending, serviced, slots, State, Stepped, told, servedStep, sequenceSent}
 use Rattle.dshot_bank_spec.specs.Steps.{buffersFit, lengthRefusal, laneRefusal, portRefusal, refuseOr, step}

@@ -12,7 +12,7 @@ use Rattle.dshot_reply_spec.specs.Answer.{pick}
 use Rattle.dshot_spec.specs.Tabulate.{part}
 use Rattle.dshot_bank_spec.specs.Lanes.{each}
 use Rattle.dshot_bank_spec.specs.State.{Buffers}
-use Rattle.dshot_bank_spec.specs.Send.{putSlots, writeSpare}
+use Rattle.dshot_bank_spec.specs.FrameSet.{putSlots, writeSpare}
 use Rattle.dshot_bank_spec.proofs.LaneLaws.{part-before}
 
 -- a lane's 16 slots of a buffer

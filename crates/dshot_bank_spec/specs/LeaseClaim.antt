@@ -8,7 +8,7 @@ use mathlib.Core.List.{List}
 use lib.ListN.{replicate, set}
 use Rattle.dshot_bank_spec.specs.State.{Core}
 use Rattle.dshot_bank_spec.specs.Commands.{MotorCommand, nextCommandFrame}
-use Rattle.dshot_bank_spec.specs.Send.{nextSet}
+use Rattle.dshot_bank_spec.specs.FrameSet.{nextSet}
 use Rattle.dshot_bank_spec.specs.Service.{demandExpired}
 use Rattle.dshot_bank_spec.specs.SentClaim.{sendingCore}
 

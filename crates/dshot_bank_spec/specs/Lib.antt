@@ -6,6 +6,7 @@ pub mod OrderNumber
 pub mod Refusals
 pub mod Commands
 pub mod Replies
+pub mod FrameSet
 pub mod Send
 pub mod Service
 pub mod Interrupt

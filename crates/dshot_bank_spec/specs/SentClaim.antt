@@ -12,7 +12,7 @@ use Rattle.dshot_spec.specs.Sequence.{readSequence}
 use Rattle.dshot_bank_spec.specs.State.{Core}
 use Rattle.dshot_bank_spec.specs.Order.{Order, start-frame}
 use Rattle.dshot_bank_spec.specs.Commands.{clearRequestSent}
-use Rattle.dshot_bank_spec.specs.Send.{nextSet, kindSent}
+use Rattle.dshot_bank_spec.specs.FrameSet.{nextSet, kindSent}
 use Rattle.dshot_bank_spec.specs.Service.{ServiceEvent, demandExpired, expireLease, repliesRead}
 use Rattle.dshot_bank_spec.specs.Calls.{service-call, sending, serviced, slots, State}
 use Rattle.dshot_bank_spec.specs.Steps.{step}

@@ -19,7 +19,8 @@ ghost use Rattle.bank_slots_spec.specs.Memory.{at};
 ghost use Rattle.bank_slots_spec.specs.Load.{timingAt};
 ghost use Rattle.bank_slots_spec.specs.Store.{store};
 ghost use Rattle.bank_slots_spec.specs.Called.{Called, fit, sized, stateAt, answerOf, buffersAfter, number};
-ghost use Rattle.bank_slots_spec.specs.Outs.{taken, present, masks, outAfter, runGiven};
+ghost use Rattle.bank_slots_spec.specs.Outs.{outAfter};
+ghost use Rattle.bank_slots_spec.specs.Arguments.{taken, present, masks, runGiven};
 
 // A new bank of a timing in four slots: the first lent buffer is current, the second spare.
 #[no_mangle]

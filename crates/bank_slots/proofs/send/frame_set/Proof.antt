@@ -1,7 +1,7 @@
 -- `bank_slots::send::frame_set` meets its contract: a command's frame set, or an ordinary one.
 -- Assumes nothing.
 use mathlib.Core.Path.{_∙_, sym, ap, subst}
-use Rattle.dshot_bank_spec.specs.Send.{FrameSet, frameSet}
+use Rattle.dshot_bank_spec.specs.FrameSet.{FrameSet, frameSet}
 use Rattle.bank_slots_spec.specs.Load.{load}
 use Rattle.bank_slots.specs.declared.send.FrameCommand.{FrameCommand}
 use Rattle.bank_slots.specs.Frames.{motorCommandOf, OnLane}

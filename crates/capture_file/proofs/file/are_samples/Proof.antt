@@ -5,7 +5,7 @@ use mathlib.Core.Path.{_≡_, refl, sym, ap, _∙_}
 use Prim.Native.Nat.{ℕ}
 use native.Mathlib.Omega.{arith}
 use lib.ListN.{drop}
-use Rattle.capture_file.specs.File.{readAll}
+use Rattle.capture_file.specs.Groups.{readAll}
 use Rattle.dshot_reply_spec.specs.Answer.{isGiven}
 use Rattle.capture_file.specs.FileSteps.{numberAnswer}
 use Rattle.capture_file.proofs.SampleLaws.{none-known, more-known, nothing-left}

@@ -5,7 +5,8 @@ use mathlib.Core.Path.{_≡_, refl, ap, _∙_}
 use mathlib.Core.List.{[], _++_}
 use Prim.Native.Nat.{_+_, _-_}
 use lib.ListN.{length, drop, getD, drop-of-length-le}
-use Rattle.capture_file.specs.File.{groups, allGroups}
+use Rattle.capture_file.specs.Groups.{groups}
+use Rattle.capture_file.specs.File.{allGroups}
 use Rattle.capture_file.specs.FileSteps.{put}
 use Rattle.capture_file.proofs.WriteLaws.{Ahead, ahead-fits, ahead-more, ahead-end, next-groups}
 use borrow.Author.Needs.{needs}

@@ -7,7 +7,8 @@ use native.Mathlib.Omega.{arith}
 use lib.ListN.{drop}
 use borrow.Author.Needs.{needs}
 use Rattle.dshot_reply_spec.specs.Answer.{given}
-use Rattle.capture_file.specs.File.{fileSamples, Headed, headed, readNumber}
+use Rattle.capture_file.specs.Groups.{Headed, headed, readNumber}
+use Rattle.capture_file.specs.File.{fileSamples}
 use Rattle.capture_file.specs.FileSteps.{numberAnswer}
 use Rattle.capture_file.proofs.HeadLaws.{no-count, no-mask, no-edt, too-many, no-flag, head-is}
 use Rattle.capture_file.proofs.file.read_head.Statement.{statement}

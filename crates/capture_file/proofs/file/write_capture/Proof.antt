@@ -8,7 +8,8 @@ use native.Mathlib.Omega.{arith}
 use native.Mathlib.Nat.{zero-add}
 use lib.ListN.{length}
 use Rattle.dshot_reply_spec.specs.Answer.{pick}
-use Rattle.capture_file.specs.File.{groups, Capture, capture, allGroups, fileOf}
+use Rattle.capture_file.specs.Groups.{groups}
+use Rattle.capture_file.specs.File.{Capture, capture, allGroups, fileOf}
 use Rattle.capture_file.specs.FileSteps.{put}
 use Rattle.capture_file.proofs.ReadBack.{file-most}
 use Rattle.capture_file.proofs.WriteLaws.{Ahead, ahead-fits, ahead-more}

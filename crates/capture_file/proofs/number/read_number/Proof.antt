@@ -6,7 +6,7 @@ use Prim.Native.Nat.{ℕ, _+_}
 use native.Mathlib.Omega.{arith}
 use lib.ListN.{drop, drop-of-length-le}
 use borrow.Author.Needs.{needs}
-use Rattle.capture_file.specs.File.{readNumber}
+use Rattle.capture_file.specs.Groups.{readNumber}
 use Rattle.capture_file.proofs.ReadLaws.{from-here, some-here, zero-here}
 use Rattle.capture_file.proofs.ReadLaws.{no-group, one-group, zero-second, two-groups, zero-third, large-third, three-groups}
 use Rattle.capture_file.proofs.number.read_number.Statement.{statement}

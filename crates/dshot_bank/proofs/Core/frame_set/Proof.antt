@@ -1,7 +1,7 @@
 -- `dshot_bank::Core::frame_set` meets its contract.
 -- Assumes nothing.
 use mathlib.Core.Path.{_∙_, sym, ap}
-use Rattle.dshot_bank_spec.specs.Send.{frameSet}
+use Rattle.dshot_bank_spec.specs.FrameSet.{frameSet}
 use Rattle.dshot_bank.specs.declared.send.FrameCommand.{FrameCommand}
 use Rattle.dshot_bank.specs.States.{coreOf}
 use Rattle.dshot_bank.specs.Sends.{motorCommandOf}

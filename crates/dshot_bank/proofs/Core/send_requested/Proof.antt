@@ -7,7 +7,8 @@ use Rattle.dshot_bank.proofs.StepLaws.{withRequests}
 use Rattle.dshot_spec.specs.Packet.{motorPackets}
 use Rattle.dshot_bank_spec.specs.With.{withCommandSequence}
 use Rattle.dshot_bank_spec.specs.Commands.{NextFrame}
-use Rattle.dshot_bank_spec.specs.Send.{frameSet, firstDuties, encodeLanes, exchangeBuffers, sendRequested}
+use Rattle.dshot_bank_spec.specs.FrameSet.{frameSet, firstDuties, encodeLanes}
+use Rattle.dshot_bank_spec.specs.Send.{exchangeBuffers, sendRequested}
 use Rattle.dshot_bank_spec.specs.Send as Spec
 use Rattle.dshot_bank.specs.declared.Requests.{Requests}
 use Rattle.dshot_bank.specs.States.{coreOf}

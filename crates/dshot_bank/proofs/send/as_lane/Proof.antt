@@ -2,7 +2,7 @@
 -- Assumes nothing.
 use mathlib.Core.Path.{_∙_, sym, ap}
 use Rattle.dshot_spec.specs.Packet as Packet
-use Rattle.dshot_bank_spec.specs.Send.{asLane}
+use Rattle.dshot_bank_spec.specs.FrameSet.{asLane}
 use Rattle.dshot_bank.specs.declared.MotorChoice.{MotorChoice}
 use Rattle.dshot_bank.specs.States.{choiceOf}
 use borrow.Author.Needs.{needs}

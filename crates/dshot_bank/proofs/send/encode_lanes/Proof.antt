@@ -10,7 +10,7 @@ use Rattle.dshot.specs.declared.DshotPacket.{DshotPacket}
 use Rattle.dshot.specs.Answers.{timingOf, words}
 use Rattle.dshot_bank_spec.specs.Lanes.{each}
 use Rattle.dshot_bank_spec.specs.State.{Buffers}
-use Rattle.dshot_bank_spec.specs.Send.{writeSpare, encodeLane, encodeLanes}
+use Rattle.dshot_bank_spec.specs.FrameSet.{writeSpare, encodeLane, encodeLanes}
 use mathlib.Core.Bool.{false}
 use borrow.Author.Needs.{needs}
 use Rattle.dshot_bank.proofs.send.encode_lanes.Statement.{statement}

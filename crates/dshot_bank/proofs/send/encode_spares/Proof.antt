@@ -5,7 +5,7 @@ use lib.ListN.{replicate}
 use borrow.Author.Tests.{not-true, not-false}
 use Rattle.dshot_reply_spec.specs.Answer.{wrongLength}
 use Rattle.dshot.specs.Answers.{words, timingOf}
-use Rattle.dshot_bank_spec.specs.Send.{firstDuties}
+use Rattle.dshot_bank_spec.specs.FrameSet.{firstDuties}
 use Rattle.dshot_bank_spec.proofs.LaneLaws.{on, off}
 use Rattle.dshot_bank.proofs.ReplyLaws.{two-fit}
 use borrow.Author.Needs.{needs}

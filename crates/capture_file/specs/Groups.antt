@@ -1,0 +1,39 @@
+-- A number of a capture file, added by document 01: up to 65535, in groups of seven bits, in the shortest form.
+-- Assumes nothing.
+use Prim.Native.Nat.{ℕ, zero, suc, _+_, _-_, _*_, _/_, _%_}
+use mathlib.Core.List.{List, [], _∷_}
+use lib.Dec.{eqb, ltb}
+use Rattle.dshot_reply_spec.specs.Answer.{Answer, given, refused, then, pick, notACapture}
+
+-- a number up to 65535 in one, two or three groups of seven bits, lowest first, 128 added to all groups but the last
+unfoldable pub groups : ℕ → List ℕ
+groups n =
+    pick (ltb n 128) (n ∷ [])
+    (pick (ltb n 16384) ((128 + n % 128) ∷ n / 128 ∷ [])
+    ((128 + n % 128) ∷ (128 + n / 128 % 128) ∷ n / 16384 ∷ []))
+
+-- a number at the head of bytes, and the bytes after it
+pub record Headed : Type 0 where
+  pub number : ℕ
+  pub rest : List ℕ
+
+abbrev pub headed : ℕ → List ℕ → Headed
+headed n s = record { number = n; rest = s }
+
+-- a byte below 128 is a number; any other is the lowest seven bits of one, and a number that is not 0 follows, which makes the form the shortest
+abbrev pub readGroups : List ℕ → Answer Headed
+readGroups [] = refused notACapture
+readGroups (b ∷ s) =
+    pick (ltb b 128) (given (headed b s))
+    (then (readGroups s) (λ r.
+    pick (eqb (r .number) 0) (refused notACapture) (given (headed (b - 128 + 128 * r .number) (r .rest)))))
+
+-- the same up to 65535, so in three groups at most
+unfoldable pub readNumber : List ℕ → Answer Headed
+readNumber bytes = then (readGroups bytes) (λ r. pick (ltb 65535 (r .number)) (refused notACapture) (given r))
+
+-- n numbers, and nothing after them
+abbrev pub readAll : ℕ → List ℕ → Answer (List ℕ)
+readAll zero [] = given []
+readAll zero (b ∷ s) = refused notACapture
+readAll (suc n) s = then (readNumber s) (λ r. then (readAll n (r .rest)) (λ xs. given (r .number ∷ xs)))
