@@ -5,7 +5,8 @@
  * what it was asked for.
  *
  * A slice is a pointer and the number of its elements; NULL is as good as any pointer where that number is
- * 0. A slice of another length than the call names is refused with KUZHENGA_WRONG_LENGTH, before all else.
+ * 0. A slice of another length than the call names is refused with KUZHENGA_WRONG_LENGTH, before all else. The
+ * numbers behind a call's colon are its refusals.
  * The library keeps no pointer, allocates nothing and has no state of its own.
  *
  * What no call can check: a slice that is written must not overlap another slice of the same call, and a
@@ -245,7 +246,8 @@ uint32_t kuzhenga_command_lease_expired(uint64_t started_ms, uint32_t duration_m
  *
  * Other contents than these count so: a flag above 1 is yes; a lane is the slot less one, modulo 4; of the
  * index and the repeats the low byte counts, of a reading's number the low byte, but all of a speed's and two
- * bytes of debug's; a kind above 11 is 7. After a call on such contents the slots mean the bank after it; which of
+ * bytes of debug's and none of edt's or a refusal's; the slots of a run that is not there count for nothing; a
+ * kind above 11 is 7. After a call on such contents the slots mean the bank after it; which of
  * the slots that mean it they are is not promised. A refusal leaves them all. The kinds of stored replies are not
  * those of readings.
  *
@@ -324,7 +326,8 @@ static inline unsigned kuzhenga_order_lane(uint16_t order)
 enum {
     KUZHENGA_FRAME_STARTED = 0,
     KUZHENGA_BUSY = 1,           /* a set is in flight; no orders */
-    KUZHENGA_LEASE_EXPIRED = 2,  /* a set without throttle was started, or, with no orders, one is in flight */
+    KUZHENGA_LEASE_EXPIRED = 2,  /* a set without the lease's throttles was started; or, with no orders, an earlier
+                                    set is still in flight, and the next one has none of them */
     KUZHENGA_SERVICE_FAULTED = 3 /* a fault was latched, with its orders, or had been before, with none */
 };
 enum {
@@ -342,8 +345,8 @@ enum { KUZHENGA_TAKEN = 0, KUZHENGA_PRESENT = 4, KUZHENGA_MASKS = 8 };
  * set: 13. `lanes` has four slots for whether each lane takes its buffer, four for whether it has a capture, and
  * four for the masks of these; lane n's sequence is written from slot 16 n of its spare, and its window is the
  * 160 samples from 160 n. What a window reads as, a refusal too, is stored and is no refusal of the call.
- * Windows are read with EDT off: a frame of extended telemetry reads as a speed there, so it is not to be
- * enabled on an ESC that a bank reads. */
+ * Windows are read with EDT off: a frame of extended telemetry reads as a speed there (or as 11, and 0xE00 as
+ * the acknowledgement), so it is not to be enabled on an ESC that a bank reads. */
 uint32_t kuzhenga_bank_service(uint16_t *bank, size_t bank_len, uint64_t now_ms, const uint16_t *lanes,
                                size_t lanes_len /* 12 */, uint16_t *first, size_t first_len /* 64 */,
                                uint16_t *second, size_t second_len /* 64 */, const uint16_t *captures,

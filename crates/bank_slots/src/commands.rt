@@ -130,7 +130,7 @@ fn demand(bank: &mut [u16], commands: &[u16], now_ms: u64, lease_duration_ms: u3
     put_long(bank, LEASE_OVER, lease_duration_ms as u64 + 1);
 }
 
-// The throttles of the four motors, each up to 2000, and how sized they are in force.
+// The throttles of the four motors, each up to 2000, and how long they are in force.
 pub fn command_throttles(
     bank: &mut [u16],
     commands: &[u16],

@@ -59,7 +59,8 @@ pub data SameSlots (lane : ℕ) : List (List ℕ) → List (List ℕ) → Type 0
 pub record SlotsIsolated : Type 0 where
   -- each call returns, puts into the slots of its answer and leaves what the bank's own call answers and leaves
   pub traced : {xs : List ℕ} {b : Buffers} {ms : List Made} {rs : List Shown} → Ran xs b ms rs → rs ≡ shownAll ms (madeTrace (stateAt xs b) ms)
-  -- those whose slices fit are a list of the bank's calls, so that all claims about such lists hold of them; the others are refused and change nothing
+  -- those whose slices fit are a list of the bank's calls, so that the claims about lists from any state hold of them, and those about lists from a new
+  -- bank where the slots hold one (`begins`); the others are refused and change nothing
   pub fitted : (s : State) (ms : List Made) → fittingOf ms (madeTrace s ms) ≡ trace 4 s (fitting ms)
   pub left : (s : State) (ms : List Made) → madeRun s ms ≡ run 4 s (fitting ms)
   -- calls that only look change nothing, wherever they stand
