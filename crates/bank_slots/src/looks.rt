@@ -5,22 +5,15 @@
 // The calls that only look at a bank, the taking of its replies, and the view of the sequence that a lane is sending.
 
 use crate::BIDIRECTIONAL;
-use crate::BUSY_SKIPS;
-use crate::DMA_FAULTS;
 use crate::FAULTED;
-use crate::FRAME_TIMEOUTS;
-use crate::FRAMES_COMPLETED;
 use crate::FRAMES_STARTED;
 use crate::IN_SECOND;
-use crate::LANE_COMPLETIONS;
-use crate::LEASE_EXPIRIES;
 use crate::REPLIES;
 use crate::REPLIES_HELD;
 use crate::REPLIES_SLOTS;
 use crate::REPLY_STATS_SLOTS;
 use crate::RUN;
 use crate::SLOTS;
-use crate::SPURIOUS;
 use crate::STATS_SLOTS;
 use crate::VALUES;
 use crate::memory::bit;
@@ -110,6 +103,15 @@ pub fn requested_values(bank: &[u16], out: &mut [u16]) -> u32
     0
 }
 
+fn copy(part: &[u16], out: &mut [u16])
+    requires { ⌜ length (now part) ≡ length (now out) ⌝ }
+    ensures { λ r. ⌜ now (out .exit) ≡ now (part .entry) ⌝ }
+{
+    for i in 0..part.len() {
+        out[i] = part[i];
+    }
+}
+
 // ---- counts
 
 fn copy_word(bank: &[u16], from: usize, out: &mut [u16], to: usize)
@@ -130,17 +132,8 @@ pub fn stats(bank: &[u16], out: &mut [u16]) -> u32
     if out.len() != STATS_SLOTS {
         return 13;
     }
-    copy_word(bank, FRAMES_STARTED, out, 0);
-    copy_word(bank, FRAMES_COMPLETED, out, 2);
-    copy_word(bank, LANE_COMPLETIONS, out, 4);
-    copy_word(bank, LANE_COMPLETIONS + 2, out, 6);
-    copy_word(bank, LANE_COMPLETIONS + 4, out, 8);
-    copy_word(bank, LANE_COMPLETIONS + 6, out, 10);
-    copy_word(bank, BUSY_SKIPS, out, 12);
-    copy_word(bank, LEASE_EXPIRIES, out, 14);
-    copy_word(bank, FRAME_TIMEOUTS, out, 16);
-    copy_word(bank, DMA_FAULTS, out, 18);
-    copy_word(bank, SPURIOUS, out, 20);
+    // They stand in the state as they are told.
+    copy(&bank[FRAMES_STARTED..REPLIES], out);
     0
 }
 
@@ -250,15 +243,6 @@ pub fn take_replies(bank: &mut [u16], out: &mut [u16]) -> u32
 }
 
 // ---- the view
-
-fn copy(part: &[u16], out: &mut [u16])
-    requires { ⌜ (length (now part) ≡ 16) × (length (now out) ≡ 16) ⌝ }
-    ensures { λ r. ⌜ now (out .exit) ≡ now (part .entry) ⌝ }
-{
-    for i in 0..COMPARE_DMA_SLOTS {
-        out[i] = part[i];
-    }
-}
 
 // The 16 slots of the sequence that a lane is sending, out of the buffer that its mark names.
 pub fn sending(bank: &[u16], first: &[u16], second: &[u16], motor: usize, out: &mut [u16]) -> u32

@@ -8,14 +8,14 @@ use Prim.Native.Nat.{ℕ, zero, suc, _+_, _*_, _/_, _%_, _<_, _≤_, zero-le}
 use native.Mathlib.Nat.{le-antisymm, le-of-suc-le-suc}
 use native.Mathlib.Omega.{arith}
 use lib.Dec.{eqb, ltb}
-use lib.ListN.{length, getD, set, take, replicate, length-set}
+use lib.ListN.{length, getD, set, take, drop, replicate, length-set}
 use lib.Seq.{take-all}
 use borrow.Author.Tests.{ltb-true, ne-eqb}
 use Rattle.dshot_reply_spec.specs.Answer.{pick, given, refused, noReply}
 use Rattle.dshot_reply_spec.specs.Answer as Reply
 use Rattle.dshot_reply_spec.specs.Value.{Reading}
 use Rattle.dshot_reply_spec.specs.Kind.{kindNumber, readingNumber}
-use Rattle.dshot_spec.specs.Tabulate.{part}
+use Rattle.dshot_spec.specs.Tabulate.{tabulate, part}
 use Rattle.dshot_bank_spec.specs.Lanes.{if_then_else_, isSome}
 use Rattle.dshot_bank_spec.specs.State.{Core, Buffers}
 use Rattle.dshot_bank_spec.specs.With.{withRepliesHeld, withFrame}
@@ -25,15 +25,17 @@ use Rattle.dshot_bank_spec.specs.Calls as Call
 use Rattle.dshot_bank_spec.proofs.LaneLaws.{off}
 use Rattle.bank_slots_spec.specs.Memory.{_holds_, at, write, word, wordRows}
 use Rattle.bank_slots_spec.specs.Places.{VALUES, RUN, FAULTED, BIDIRECTIONAL, REPLIES-HELD, IN-SECOND, FRAMES-STARTED, FRAMES-COMPLETED, LANE-COMPLETIONS, BUSY-SKIPS, LEASE-EXPIRIES, FRAME-TIMEOUTS, DMA-FAULTS, SPURIOUS, REPLIES}
-use Rattle.bank_slots_spec.specs.Load.{flag, reply, four, statsAt, laneAt, bankAt, load}
+use Rattle.bank_slots_spec.specs.Load.{flag, reply, four, fourLists, statsAt, laneAt, bankAt, load}
 use Rattle.bank_slots_spec.specs.Store.{bit}
 use Rattle.bank_slots_spec.specs.Places as Places
+use Rattle.bank_slots_spec.specs.Storable.{Below}
 use Rattle.bank_slots_spec.specs.Moves.{Moves, onCore}
 use Rattle.bank_slots_spec.specs.Called.{Called, fit, sized, number, stateAt, answerOf}
-use Rattle.bank_slots_spec.specs.Outs.{countSlots, replyCountSlots, replySlots, repliesSlots, slotsOf, outAfter}
+use Rattle.bank_slots_spec.specs.Outs.{wordSlots, countSlots, replyCountSlots, replySlots, repliesSlots, slotsOf, outAfter}
 use Rattle.bank_slots_spec.specs.Parts.{slotRows}
 use Rattle.bank_slots_spec.proofs.MemoryLaws.{length-write}
-use Rattle.bank_slots_spec.proofs.FillLaws.{filled-to, filled}
+use Rattle.bank_slots_spec.proofs.FieldLaws.{word-low, word-high}
+use Rattle.bank_slots_spec.proofs.FillLaws.{tabulated, filled-to, filled}
 use Rattle.bank_slots_spec.proofs.MoveLaws.{moves-write, stays}
 use Rattle.bank_slots_spec.proofs.CalledLaws.{state-short, answer-unfit, answer-fits, called-unfit, called-done, out-kept, out-filled}
 use Rattle.bank_slots_spec.proofs.CommandCalls.{other-long, both-fit}
@@ -129,26 +131,20 @@ module _ (xs out : List ℕ) (n : length xs ≡ Places.slots) where
   abbrev pub copied : ℕ → ℕ → List ℕ → List ℕ
   copied from to before = write (wordRows to (word from (at xs))) before
 
-  -- the counts, one after another
-  pub stats-told : length out ≡ 22 → {a b c d e f g h i j k : List ℕ}
-      → a ≡ copied FRAMES-STARTED 0 out
-      → b ≡ copied FRAMES-COMPLETED 2 a
-      → c ≡ copied LANE-COMPLETIONS 4 b
-      → d ≡ copied (LANE-COMPLETIONS + 2) 6 c
-      → e ≡ copied (LANE-COMPLETIONS + 4) 8 d
-      → f ≡ copied (LANE-COMPLETIONS + 6) 10 e
-      → g ≡ copied BUSY-SKIPS 12 f
-      → h ≡ copied LEASE-EXPIRIES 14 g
-      → i ≡ copied FRAME-TIMEOUTS 16 h
-      → j ≡ copied DMA-FAULTS 18 i
-      → k ≡ copied SPURIOUS 20 j
-      → Looks stats 22 xs out k 0
-  unfolding step portRefusal load
-  stats-told l a b c d e f g h i j k =
-      let s = statsAt (at xs) in
-      let six = f ∙ ap (copied 49 10) (e ∙ ap (copied 47 8) (d ∙ ap (copied 45 6) (c ∙ ap (copied 43 4) (b ∙ ap (copied 41 2) a)))) in
-      let all = k ∙ ap (copied 59 20) (j ∙ ap (copied 57 18) (i ∙ ap (copied 55 16) (h ∙ ap (copied 53 14) (g ∙ ap (copied 51 12) six)))) in
-      look-told stats 22 xs out n l (counts s) (λ t. refl) refl (all ∙ filled (countSlots s) out l)
+  -- the counts, which stand in the state as they are told
+  pub stats-told : Below xs → length out ≡ 22 → {after : List ℕ} → after ≡ take 22 (drop FRAMES-STARTED xs) → Looks stats 22 xs out after 0
+  unfolding step portRefusal load tabulate
+  stats-told low l h =
+      look-told stats 22 xs out n l (counts (statsAt (at xs))) (λ t. refl) refl (h ∙ ap (λ (ys : List ℕ). take 22 (drop FRAMES-STARTED ys)) (tabulated Places.slots xs n) ∙ all)
+    where
+      pair : (k : ℕ) → at xs k ∷ at xs (k + 1) ∷ [] ≡ wordSlots (word k (at xs))
+      pair k = λ j. word-low k (at xs) low j ∷ word-high k (at xs) low j ∷ []
+
+      all : take 22 (drop FRAMES-STARTED (tabulate Places.slots (at xs))) ≡ countSlots (statsAt (at xs))
+      all =
+          λ j. pair FRAMES-STARTED j ++ (pair FRAMES-COMPLETED j
+          ++ (fourLists (λ (i : ℕ). pair (LANE-COMPLETIONS + 2 * i) j)
+          ++ (pair BUSY-SKIPS j ++ (pair LEASE-EXPIRIES j ++ (pair FRAME-TIMEOUTS j ++ (pair DMA-FAULTS j ++ pair SPURIOUS j))))))
 
   -- each count of the four lanes
   pub reply-stats-told : length out ≡ 24 → {a b c d e f g h i j k m : List ℕ}

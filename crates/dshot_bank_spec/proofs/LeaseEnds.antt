@@ -1,6 +1,6 @@
 -- No throttle outlives its lease: a service that finds the lease expired sends a set without throttle.
 -- Assumes nothing.
-use mathlib.Core.Path.{_≡_, _∙_, refl, sym, ap, subst}
+use mathlib.Core.Path.{_≡_, _∙_, refl, ap}
 use mathlib.Core.Bool.{Bool, true, false, not, true≢false}
 use mathlib.Core.Option.{Option, none, some}
 use mathlib.Core.List.{List, []}
@@ -9,7 +9,7 @@ use lib.Dec.{ltb}
 use lib.ListN.{replicate}
 use Rattle.dshot_reply_spec.specs.Answer.{pick}
 use Rattle.dshot_spec.specs.Lease.{leaseExpired}
-use Rattle.dshot_bank_spec.specs.State.{Demand, MotorRun, Core, LaneReply, Buffers}
+use Rattle.dshot_bank_spec.specs.State.{Demand, MotorRun, Frame, Core, LaneReply, Buffers}
 use Rattle.dshot_bank_spec.specs.Lanes.{if_then_else_, position}
 use Rattle.dshot_bank_spec.specs.With.{withFrame, withRepliesHeld, withRepliesWaiting}
 use Rattle.dshot_bank_spec.specs.Commands.{MotorCommand, anyRequested, commandStop, clearRequestSent, nextOfRun, nextCommandFrame}
@@ -20,36 +20,32 @@ use Rattle.dshot_bank_spec.specs.SentClaim.{sendingCore}
 use Rattle.dshot_bank_spec.specs.LeaseClaim.{noThrottle, LeaseEnds}
 use Rattle.dshot_bank_spec.proofs.LaneLaws.{either}
 
--- reading replies leaves the demand and the run
-read-demand : (c : Core) → repliesRead c .demand ≡ c .demand
+-- reading replies leaves what is not of the frame
+read-keeps : {A : Type 0} (g : Core → A) → ((f : Frame) (c : Core) → g (withFrame f c) ≡ g c) → (c : Core) → g (repliesRead c) ≡ g c
 unfolding repliesRead
-read-demand c = side (c .frame .repliesWaiting)
-  where
-    side : (b : Bool) → (if b then withFrame (withRepliesHeld true (withRepliesWaiting false (c .frame))) c else c) .demand ≡ c .demand
-    side true = refl
-    side false = refl
+read-keeps g k c = either (λ (x : Core). g x ≡ g c) (c .frame .repliesWaiting) (k (withRepliesHeld true (withRepliesWaiting false (c .frame))) c) refl
 
-read-run : (c : Core) → repliesRead c .commandSequence ≡ c .commandSequence
-unfolding repliesRead
-read-run c = side (c .frame .repliesWaiting)
-  where
-    side : (b : Bool) → (if b then withFrame (withRepliesHeld true (withRepliesWaiting false (c .frame))) c else c) .commandSequence ≡ c .commandSequence
-    side true = refl
-    side false = refl
+-- the core without its lease, before a set in flight is looked at
+ended : ℕ → ℕ → Core → Core
+ended n now c = expireLease n (demandExpired now (clearRequestSent c .demand)) (clearRequestSent c)
 
 module _ (n now : ℕ) (c : Core) (e : demandExpired now (c .demand) ≡ true) where
-  -- the demand with which the service comes to send
+  ended-demand : ended n now c .demand ≡ commandStop n c .demand
+  unfolding ended clearRequestSent expireLease commandStop
+  ended-demand = ap (λ (b : Bool). expireLease n b (clearRequestSent c) .demand) e
+
+  ended-run : ended n now c .commandSequence ≡ c .commandSequence
+  unfolding ended clearRequestSent expireLease commandStop
+  ended-run = ap (λ (b : Bool). expireLease n b (clearRequestSent c) .commandSequence) e
+
+  -- the demand and the run with which the service comes to send
   demand-ended : sendingCore n now c .demand ≡ commandStop n c .demand
-  unfolding clearRequestSent expireLease commandStop
-  demand-ended =
-      read-demand (expireLease n (demandExpired now (c .demand)) (clearRequestSent c))
-      ∙ ap (λ (b : Bool). expireLease n b (clearRequestSent c) .demand) e
+  unfolding ended
+  demand-ended = read-keeps (λ (x : Core). x .demand) (λ f x. refl) (ended n now c) ∙ ended-demand
 
   run-kept : sendingCore n now c .commandSequence ≡ c .commandSequence
-  unfolding clearRequestSent expireLease commandStop
-  run-kept =
-      read-run (expireLease n (demandExpired now (c .demand)) (clearRequestSent c))
-      ∙ ap (λ (b : Bool). expireLease n b (clearRequestSent c) .commandSequence) e
+  unfolding ended
+  run-kept = read-keeps (λ (x : Core). x .commandSequence) (λ f x. refl) (ended n now c) ∙ ended-run
 
   stopped : sendingCore n now c .demand .requestedValues ≡ replicate n 0
   unfolding commandStop
@@ -94,21 +90,13 @@ module _ (n now : ℕ) (c : Core) (e : demandExpired now (c .demand) ≡ true) (
   unfolding commandStop
   same-stop x k = λ j. record { requestedValues = replicate n 0; leaseStartedMs = k j; leaseDurationMs = none }
 
-  -- the core without its lease, before a set in flight is looked at
-  ended : Core
-  ended = expireLease n (demandExpired now (clearRequestSent c .demand)) (clearRequestSent c)
-
-  ended-demand : ended .demand ≡ commandStop n c .demand
-  unfolding ended clearRequestSent expireLease commandStop
-  ended-demand = ap (λ (b : Bool). expireLease n b (clearRequestSent c) .demand) e
-
   left : serviceCore n now taken present masks samples replies buffers c .bank .core .demand ≡ commandStop n c .demand
   unfolding serviceCore clearRequestSent ended
   left =
       otherwise ends (c .frame .faulted) (record { event = faulted; orders = []; bank = record { core = clearRequestSent c; replies = replies }; buffers = buffers }) f
-      (either ends (ended .frame .busy)
-      (busy-keeps n now (commandStop n c .demand) same-stop (demandExpired now (c .demand)) ended ended-demand)
-      (send-keeps n now (commandStop n c .demand) same-stop taken (repliesRead ended) (read-demand ended ∙ ended-demand)))
+      (either ends (ended n now c .frame .busy)
+      (busy-keeps n now (commandStop n c .demand) same-stop (demandExpired now (c .demand)) (ended n now c) (ended-demand n now c e))
+      (send-keeps n now (commandStop n c .demand) same-stop taken (repliesRead (ended n now c)) (demand-ended n now c e)))
     where
       ends : Served → Type 0
       ends r = r .bank .core .demand ≡ commandStop n c .demand

@@ -11,10 +11,10 @@ use Rattle.bank_slots.proofs.looks.copy.Statement.{statement}
 use Rattle.bank_slots.proofs.looks.copy.Tie as tie
 
 abbrev Inv-loop : tie.InvT-loop
-Inv-loop part out₀ i₀ out i = (i ≤ 16) × (out ≡ take i part ++ drop i out₀) × (length out ≡ length out₀)
+Inv-loop part out₀ i₀ i-end out i = (i ≤ i-end) × (out ≡ take i part ++ drop i out₀) × (length out ≡ length out₀)
 
 abbrev μ-loop : tie.MeasureT-loop
-μ-loop part out₀ i₀ out i = 16 - i
+μ-loop part out₀ i₀ i-end out i = i-end - i
 
 loop-holds : tie.Need-loop-holds Inv-loop μ-loop
 loop-holds c = (zero-le, refl, refl)
