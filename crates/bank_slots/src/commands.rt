@@ -27,12 +27,21 @@ use dshot::DshotCommandSequence;
 use dshot::at_most;
 use dshot_bank::DSHOT_COMMAND_MAX;
 use dshot_bank::LANES;
+use dshot_reply::refusals::BANK_FAULTED;
+use dshot_reply::refusals::COMMAND_PENDING;
+use dshot_reply::refusals::MOTORS_RUNNING;
+use dshot_reply::refusals::NO_SUCH_MOTOR;
+use dshot_reply::refusals::REPLIES_UNSUPPORTED;
+use dshot_reply::refusals::TELEMETRY_PENDING;
+use dshot_reply::refusals::THROTTLE_OUT_OF_RANGE;
+use dshot_reply::refusals::WRONG_LENGTH;
 ghost use mathlib.Core.Path.{_≡_};
 ghost use mathlib.Core.Bool.{true};
 ghost use Prim.Native.Nat.{_<_};
 ghost use lib.Dec.{ltb};
 ghost use lib.ListN.{length};
 ghost use Rattle.dshot_reply_spec.specs.Answer.{pick};
+ghost use Rattle.dshot_reply_spec.specs.Refusals.{wrongLength};
 ghost use Rattle.dshot_bank_spec.specs.Lanes.{any};
 ghost use Rattle.dshot_bank_spec.specs.State.{Buffers};
 ghost use Rattle.dshot_bank_spec.specs.Commands.{fromLanes, isRunning};
@@ -54,14 +63,14 @@ const NO_REPLY: u16 = 7;
 
 // A new bank of a timing: the first lent buffer is current, the second spare.
 pub fn from_lanes(timing: &[u16], bank: &mut [u16]) -> u32
-    ensures { λ r. ⌜ r ≡ pick (fit (now (bank .entry)) (sized 4 (now (timing .entry)))) 0 13 ⌝ }
+    ensures { λ r. ⌜ r ≡ pick (fit (now (bank .entry)) (sized 4 (now (timing .entry)))) 0 wrongLength ⌝ }
     ensures { λ r. ⌜ now (bank .exit) ≡ pick (fit (now (bank .entry)) (sized 4 (now (timing .entry)))) (store (fromLanes 4 (timingAt (at (now (timing .entry)))))) (now (bank .entry)) ⌝ }
 {
     if bank.len() != SLOTS {
-        return 13;
+        return WRONG_LENGTH;
     }
     if timing.len() != 4 {
-        return 13;
+        return WRONG_LENGTH;
     }
     zero(bank);
     bank[0] = timing[0];
@@ -81,10 +90,10 @@ pub fn enable_bidirectional(bank: &mut [u16], receives_replies: bool) -> u32
     ensures { λ r. ⌜ ((b : Buffers) → Called (fit (now (bank .entry)) true) (Call.enable-bidirectional «receives_replies») b (now (bank .entry)) (now (bank .exit)) r) ⌝ }
 {
     if bank.len() != SLOTS {
-        return 13;
+        return WRONG_LENGTH;
     }
     if !receives_replies {
-        return 22;
+        return REPLIES_UNSUPPORTED;
     }
     bank[BIDIRECTIONAL] = 1;
     0
@@ -97,7 +106,7 @@ pub fn command_stop(bank: &mut [u16]) -> u32
     ensures { λ r. ⌜ ((b : Buffers) → Called (fit (now (bank .entry)) true) Call.command-stop b (now (bank .entry)) (now (bank .exit)) r) ⌝ }
 {
     if bank.len() != SLOTS {
-        return 13;
+        return WRONG_LENGTH;
     }
     stop(bank);
     0
@@ -141,16 +150,16 @@ pub fn command_throttles(
     ensures { λ r. ⌜ ((b : Buffers) → Called (fit (now (bank .entry)) (sized 4 (now (commands .entry)))) (Call.command-throttles (now (commands .entry)) «now_ms» «lease_duration_ms») b (now (bank .entry)) (now (bank .exit)) r) ⌝ }
 {
     if bank.len() != SLOTS {
-        return 13;
+        return WRONG_LENGTH;
     }
     if commands.len() != LANES {
-        return 13;
+        return WRONG_LENGTH;
     }
     if flag(bank[FAULTED]) {
-        return 18;
+        return BANK_FAULTED;
     }
     if any_above(commands, DSHOT_COMMAND_MAX) {
-        return 6;
+        return THROTTLE_OUT_OF_RANGE;
     }
     if !any_above(commands, 0) {
         stop(bank);
@@ -193,22 +202,22 @@ pub fn command_special(bank: &mut [u16], motor: usize, sequence: &[u16]) -> u32
     ensures { λ r. ⌜ ((b : Buffers) → Called (fit (now (bank .entry)) (sized 4 (now (sequence .entry)))) (Call.command-special motor (runGiven (now (sequence .entry)))) b (now (bank .entry)) (now (bank .exit)) r) ⌝ }
 {
     if bank.len() != SLOTS {
-        return 13;
+        return WRONG_LENGTH;
     }
     if sequence.len() != 4 {
-        return 13;
+        return WRONG_LENGTH;
     }
     if motor >= LANES {
-        return 12;
+        return NO_SUCH_MOTOR;
     }
     if flag(bank[FAULTED]) {
-        return 18;
+        return BANK_FAULTED;
     }
     if is_running(bank) {
-        return 19;
+        return MOTORS_RUNNING;
     }
     if bank[RUN] != 0 {
-        return 20;
+        return COMMAND_PENDING;
     }
     queue(bank, motor, sequence);
     0
@@ -222,16 +231,16 @@ pub fn request_telemetry(bank: &mut [u16], motor: usize) -> u32
     ensures { λ r. ⌜ ((b : Buffers) → Called (fit (now (bank .entry)) true) (Call.request-telemetry motor) b (now (bank .entry)) (now (bank .exit)) r) ⌝ }
 {
     if bank.len() != SLOTS {
-        return 13;
+        return WRONG_LENGTH;
     }
     if motor >= LANES {
-        return 12;
+        return NO_SUCH_MOTOR;
     }
     if flag(bank[FAULTED]) {
-        return 18;
+        return BANK_FAULTED;
     }
     if bank[REQUEST] != 0 {
-        return 21;
+        return TELEMETRY_PENDING;
     }
     bank[REQUEST] = motor as u16 + 1;
     0
@@ -243,7 +252,7 @@ pub fn cancel_telemetry_request(bank: &mut [u16]) -> u32
     ensures { λ r. ⌜ ((b : Buffers) → Called (fit (now (bank .entry)) true) Call.cancel-telemetry-request b (now (bank .entry)) (now (bank .exit)) r) ⌝ }
 {
     if bank.len() != SLOTS {
-        return 13;
+        return WRONG_LENGTH;
     }
     clear_request(bank);
     0
@@ -269,10 +278,10 @@ pub fn take_telemetry_request_sent(bank: &mut [u16], out: &mut [u16]) -> u32
     ensures { λ r. ⌜ ((b : Buffers) → now (out .exit) ≡ outAfter (answerOf (fit (now (bank .entry)) (sized 2 (now (out .entry)))) (stateAt (now (bank .entry)) b) Call.take-telemetry-request-sent) (now (out .entry))) ⌝ }
 {
     if bank.len() != SLOTS {
-        return 13;
+        return WRONG_LENGTH;
     }
     if out.len() != 2 {
-        return 13;
+        return WRONG_LENGTH;
     }
     put_choice(bank[REQUEST_SENT], out);
     clear_sent(bank);

@@ -29,6 +29,8 @@ use crate::numbers::STOP_FRAME;
 use crate::steps::bump_if;
 use crate::steps::latch_fault;
 use dshot_bank::LANES;
+use dshot_reply::refusals::NO_SUCH_MOTOR;
+use dshot_reply::refusals::WRONG_LENGTH;
 ghost use mathlib.Core.Path.{_≡_};
 ghost use mathlib.Core.Bool.{true, false, Bool};
 ghost use mathlib.Core.List.{List, [], _∷_, _++_};
@@ -275,13 +277,13 @@ pub fn on_dma_interrupt(
     ensures { λ r. ⌜ ((b : Buffers) → now (out .exit) ≡ outAfter (answerOf (fit (now (bank .entry)) (sized 9 (now (out .entry)))) (stateAt (now (bank .entry)) b) (on-dma-interrupt motor «transfer_complete» «dma_error» turned «turned_back»)) (now (out .entry))) ⌝ }
 {
     if bank.len() != SLOTS {
-        return 13;
+        return WRONG_LENGTH;
     }
     if out.len() != INTERRUPT_SLOTS {
-        return 13;
+        return WRONG_LENGTH;
     }
     if motor >= LANES {
-        return 12;
+        return NO_SUCH_MOTOR;
     }
     handle(
         bank,

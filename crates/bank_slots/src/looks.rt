@@ -29,11 +29,14 @@ use dshot_reply::DshotReplyError;
 use dshot_reply::ReplyRead;
 use dshot_reply::kind::kind_number;
 use dshot_reply::kind::reading_number;
+use dshot_reply::refusals::NO_SUCH_MOTOR;
+use dshot_reply::refusals::WRONG_LENGTH;
 ghost use mathlib.Core.Path.{_≡_};
 ghost use mathlib.Core.List.{[], _∷_};
 ghost use Prim.Native.Nat.{_+_, _<_};
 ghost use lib.ListN.{length};
 ghost use Rattle.dshot_reply_spec.specs.Answer.{pick};
+ghost use Rattle.dshot_reply_spec.specs.Refusals.{wrongLength};
 ghost use Rattle.dshot_reply.specs.Answers.{replyAnswer};
 ghost use Rattle.dshot_bank_spec.specs.State.{Buffers};
 ghost use Rattle.dshot_bank_spec.specs.Calls as Call;
@@ -51,14 +54,14 @@ ghost use Rattle.bank_slots_spec.specs.Parts.{slotRows};
 // The flag in a slot of the bank, told in one slot: 0 or 1.
 fn look_flag(bank: &[u16], k: usize, out: &mut [u16]) -> u32
     requires { ⌜ k < slots ⌝ }
-    ensures { λ r. ⌜ r ≡ pick (fit (now (bank .entry)) (sized 1 (now (out .entry)))) 0 13 ⌝ }
+    ensures { λ r. ⌜ r ≡ pick (fit (now (bank .entry)) (sized 1 (now (out .entry)))) 0 wrongLength ⌝ }
     ensures { λ r. ⌜ now (out .exit) ≡ pick (fit (now (bank .entry)) (sized 1 (now (out .entry)))) (Store.bit (Load.flag (at (now (bank .entry)) k)) ∷ []) (now (out .entry)) ⌝ }
 {
     if bank.len() != SLOTS {
-        return 13;
+        return WRONG_LENGTH;
     }
     if out.len() != 1 {
-        return 13;
+        return WRONG_LENGTH;
     }
     out[0] = bit(flag(bank[k]));
     0
@@ -91,10 +94,10 @@ pub fn requested_values(bank: &[u16], out: &mut [u16]) -> u32
     ensures { λ r. ⌜ ((b : Buffers) → now (out .exit) ≡ outAfter (answerOf (fit (now (bank .entry)) (sized 4 (now (out .entry)))) (stateAt (now (bank .entry)) b) Call.requested-values) (now (out .entry))) ⌝ }
 {
     if bank.len() != SLOTS {
-        return 13;
+        return WRONG_LENGTH;
     }
     if out.len() != LANES {
-        return 13;
+        return WRONG_LENGTH;
     }
     out[0] = bank[VALUES];
     out[1] = bank[VALUES + 1];
@@ -127,10 +130,10 @@ pub fn stats(bank: &[u16], out: &mut [u16]) -> u32
     ensures { λ r. ⌜ ((b : Buffers) → now (out .exit) ≡ outAfter (answerOf (fit (now (bank .entry)) (sized 22 (now (out .entry)))) (stateAt (now (bank .entry)) b) Call.stats) (now (out .entry))) ⌝ }
 {
     if bank.len() != SLOTS {
-        return 13;
+        return WRONG_LENGTH;
     }
     if out.len() != STATS_SLOTS {
-        return 13;
+        return WRONG_LENGTH;
     }
     // They stand in the state as they are told.
     copy(&bank[FRAMES_STARTED..REPLIES], out);
@@ -143,10 +146,10 @@ pub fn reply_stats(bank: &[u16], out: &mut [u16]) -> u32
     ensures { λ r. ⌜ ((b : Buffers) → now (out .exit) ≡ outAfter (answerOf (fit (now (bank .entry)) (sized 24 (now (out .entry)))) (stateAt (now (bank .entry)) b) Call.reply-stats) (now (out .entry))) ⌝ }
 {
     if bank.len() != SLOTS {
-        return 13;
+        return WRONG_LENGTH;
     }
     if out.len() != REPLY_STATS_SLOTS {
-        return 13;
+        return WRONG_LENGTH;
     }
     copy_word(bank, REPLIES + 3, out, 0);
     copy_word(bank, REPLIES + 12, out, 2);
@@ -224,10 +227,10 @@ pub fn take_replies(bank: &mut [u16], out: &mut [u16]) -> u32
     ensures { λ r. ⌜ ((b : Buffers) → now (out .exit) ≡ outAfter (answerOf (fit (now (bank .entry)) (sized 17 (now (out .entry)))) (stateAt (now (bank .entry)) b) Call.take-replies) (now (out .entry))) ⌝ }
 {
     if bank.len() != SLOTS {
-        return 13;
+        return WRONG_LENGTH;
     }
     if out.len() != REPLIES_SLOTS {
-        return 13;
+        return WRONG_LENGTH;
     }
     if !flag(bank[REPLIES_HELD]) {
         zero(out);
@@ -250,16 +253,16 @@ pub fn sending(bank: &[u16], first: &[u16], second: &[u16], motor: usize, out: &
     ensures { λ r. ⌜ now (out .exit) ≡ outAfter (answerOf (fit (now (bank .entry)) (sized 16 (now (out .entry)))) (stateAt (now (bank .entry)) (record { first = now (first .entry); second = now (second .entry) })) (Call.sending motor)) (now (out .entry)) ⌝ }
 {
     if bank.len() != SLOTS {
-        return 13;
+        return WRONG_LENGTH;
     }
     if out.len() != COMPARE_DMA_SLOTS {
-        return 13;
+        return WRONG_LENGTH;
     }
     if !buffers_fit(first.len(), second.len()) {
-        return 13;
+        return WRONG_LENGTH;
     }
     if motor >= LANES {
-        return 12;
+        return NO_SUCH_MOTOR;
     }
     let from = COMPARE_DMA_SLOTS * motor;
     let to = from + COMPARE_DMA_SLOTS;

@@ -32,12 +32,13 @@ use crate::steps::stop;
 use dshot_bank::DSHOT_FRAME_TIMEOUT_MS;
 use dshot_bank::LANES;
 use dshot_bank::service::lengths_fit;
+use dshot_reply::refusals::WRONG_LENGTH;
 ghost use mathlib.Core.Path.{_≡_};
 ghost use mathlib.Core.Bool.{Bool, true, false};
 ghost use mathlib.Core.List.{[], _∷_, _++_};
 ghost use Prim.Native.Nat.{_*_};
 ghost use lib.ListN.{length, replicate};
-ghost use Rattle.dshot_bank_spec.specs.Lanes.{if_then_else_};
+ghost use Rattle.dshot_reply_spec.specs.Answer.{if_then_else_};
 ghost use Rattle.dshot_bank_spec.specs.State.{Core, Bank, Buffers};
 ghost use Rattle.dshot_bank_spec.specs.Send.{latchFault};
 ghost use Rattle.dshot_bank_spec.specs.Service as Spec;
@@ -157,16 +158,16 @@ pub fn service(
     ensures { λ r. ⌜ now (out .exit) ≡ outAfter (answerOf (fit (now (bank .entry)) (if sized 12 (now (lanes .entry)) then sized 15 (now (out .entry)) else false)) (stateAt (now (bank .entry)) (record { first = now (first .entry); second = now (second .entry) })) (service-call «now_ms» (taken (now (lanes .entry))) (present (now (lanes .entry))) (masks (now (lanes .entry))) (now (captures .entry)))) (now (out .entry)) ⌝ }
 {
     if bank.len() != SLOTS {
-        return 13;
+        return WRONG_LENGTH;
     }
     if lanes.len() != LANES_SLOTS {
-        return 13;
+        return WRONG_LENGTH;
     }
     if out.len() != SERVICE_SLOTS {
-        return 13;
+        return WRONG_LENGTH;
     }
     if !lengths_fit(first.len(), second.len(), captures.len()) {
-        return 13;
+        return WRONG_LENGTH;
     }
     serve(bank, now_ms, lanes, first, second, captures, out);
     0

@@ -8,7 +8,8 @@ use native.Mathlib.Omega.{arith}
 use lib.Dec.{eqb}
 use lib.ListN.{length}
 use borrow.Author.Tests.{eq-eqb, ne-eqb}
-use Rattle.dshot_reply_spec.specs.Answer.{pick, wrongLength}
+use Rattle.dshot_reply_spec.specs.Answer.{if_then_else_}
+use Rattle.dshot_reply_spec.specs.Refusals.{wrongLength}
 use Rattle.dshot_bank_spec.specs.State.{Bank, Buffers}
 use Rattle.dshot_bank_spec.specs.Calls.{Call, Answer, refused, State}
 use Rattle.dshot_bank_spec.specs.Steps.{step}

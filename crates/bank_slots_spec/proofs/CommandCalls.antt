@@ -11,7 +11,7 @@ use Rattle.dshot_reply_spec.specs.Answer.{pick, given}
 use Rattle.dshot_reply_spec.specs.Answer as Reply
 use Rattle.dshot_bank_spec.specs.Lanes.{any}
 use Rattle.dshot_bank_spec.specs.State.{Core, Buffers}
-use Rattle.dshot_bank_spec.specs.Refusals.{noSuchMotor}
+use Rattle.dshot_reply_spec.specs.Refusals.{noSuchMotor}
 use Rattle.dshot_bank_spec.specs.Commands.{fromLanes, enableBidirectional, isRunning, commandStop, commandThrottles, commandSpecial, requestTelemetry, cancelTelemetryRequest, clearRequestSent}
 use Rattle.dshot_bank_spec.specs.Calls.{Call, enable-bidirectional, command-stop, command-throttles, command-special, request-telemetry, cancel-telemetry-request, take-telemetry-request-sent, refused, motor-sent, State, Stepped, told, commanded, act}
 use Rattle.dshot_bank_spec.specs.Steps.{laneRefusal, portRefusal, refuseOr, step}

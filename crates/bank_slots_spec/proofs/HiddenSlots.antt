@@ -8,7 +8,8 @@ use native.Mathlib.Omega.{arith}
 use native.Mathlib.Decide.{decLt}
 use lib.ListN.{length, getD, set, take, replicate, List·getD-append, List·getD-eq-default}
 use lib.Seq.{getD-append-add, getD-set-other}
-use Rattle.dshot_reply_spec.specs.Answer.{given, refused, noReply}
+use Rattle.dshot_reply_spec.specs.Answer.{given, refused}
+use Rattle.dshot_reply_spec.specs.Refusals.{noReply}
 use Rattle.dshot_reply_spec.specs.Answer as Reply
 use Rattle.dshot_reply_spec.specs.Value.{Reading}
 use Rattle.dshot_bank_spec.specs.State.{Core, LaneReply, Bank}

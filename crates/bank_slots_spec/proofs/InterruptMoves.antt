@@ -9,9 +9,8 @@ use lib.Bits.{bitAnd, bitOr}
 use lib.Dec.{eqb}
 use lib.ListN.{length}
 use borrow.Author.Tests.{eq-eqb, ne-eqb}
-use Rattle.dshot_reply_spec.specs.Answer.{pick}
+use Rattle.dshot_reply_spec.specs.Answer.{pick, if_then_else_}
 use Rattle.dshot_spec.specs.Tabulate.{tabulate}
-use Rattle.dshot_bank_spec.specs.Lanes.{if_then_else_}
 use Rattle.dshot_bank_spec.specs.State.{Stats, Core, Bank, Buffers}
 use Rattle.dshot_bank_spec.specs.With.{withCompletionMask, withBusy, withReceiving, withRepliesWaiting, withFramesCompleted, withFrame, withStats, withCore}
 use Rattle.dshot_bank_spec.specs.Order.{Order, stop-frame, begin-receive, end-receive}

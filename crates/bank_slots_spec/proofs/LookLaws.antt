@@ -11,12 +11,13 @@ use lib.Dec.{eqb, ltb}
 use lib.ListN.{length, getD, set, take, drop, replicate, length-set}
 use lib.Seq.{take-all}
 use borrow.Author.Tests.{ltb-true, ne-eqb}
-use Rattle.dshot_reply_spec.specs.Answer.{pick, given, refused, noReply}
+use Rattle.dshot_reply_spec.specs.Answer.{pick, given, refused, if_then_else_}
+use Rattle.dshot_reply_spec.specs.Refusals.{noReply}
 use Rattle.dshot_reply_spec.specs.Answer as Reply
 use Rattle.dshot_reply_spec.specs.Value.{Reading}
 use Rattle.dshot_reply_spec.specs.Kind.{kindNumber, readingNumber}
 use Rattle.dshot_spec.specs.Tabulate.{tabulate, part}
-use Rattle.dshot_bank_spec.specs.Lanes.{if_then_else_, isSome}
+use Rattle.dshot_bank_spec.specs.Lanes.{isSome}
 use Rattle.dshot_bank_spec.specs.State.{Core, Buffers}
 use Rattle.dshot_bank_spec.specs.With.{withRepliesHeld, withFrame}
 use Rattle.dshot_bank_spec.specs.Calls.{Call, Answer, is-bidirectional, is-faulted, command-pending, requested-values, stats, reply-stats, take-replies, values, counts, reply-counts, replied, repliesTaken, sequenceSent, replyStatsOf, repliesOf}

@@ -8,7 +8,8 @@ use native.Mathlib.Omega.{arith}
 use lib.Bits.{bitXor}
 use lib.Dec.{eqb, ltb, leb}
 use lib.ListN.{length, getD, set, take, drop}
-use Rattle.dshot_reply_spec.specs.Answer.{Answer, given, refused, then, noReply}
+use Rattle.dshot_reply_spec.specs.Answer.{Answer, given, refused, andThen}
+use Rattle.dshot_reply_spec.specs.Refusals.{noReply}
 use Rattle.dshot_reply_spec.specs.Value.{Reading, edt, speedOf, speedValue, replyOf}
 use Rattle.dshot_reply_spec.specs.Gcr.{nibbleAt, fromNibbles, decodeWord}
 use Rattle.dshot_reply_spec.specs.Runs.{levels, firstLow, runsOf, sum, assemble, fromLevels, transitionsOf}
@@ -49,7 +50,7 @@ abbrev Refuses : Answer ℕ → Type 0
 Refuses (given n) = Unit
 Refuses (refused number) = (7 ≤ number) × (number ≤ 11)
 
-then-fits : (a : Answer ℕ) (next : ℕ → Answer Reading) → Refuses a → ((n : ℕ) → ReplyFits (next n)) → ReplyFits (then a next)
+then-fits : (a : Answer ℕ) (next : ℕ → Answer Reading) → Refuses a → ((n : ℕ) → ReplyFits (next n)) → ReplyFits (andThen a next)
 then-fits (given n) next h f = f n
 then-fits (refused number) next h f = h
 

@@ -5,7 +5,8 @@ use mathlib.Core.Path.{_≡_, _∙_, refl, sym, ap, subst}
 use mathlib.Core.Bool.{Bool, true, false}
 use mathlib.Core.List.{List, [], _∷_, map}
 use Prim.Native.Nat.{ℕ}
-use Rattle.dshot_reply_spec.specs.Answer.{pick, wrongLength}
+use Rattle.dshot_reply_spec.specs.Answer.{pick}
+use Rattle.dshot_reply_spec.specs.Refusals.{wrongLength}
 use Rattle.dshot_reply_spec.specs.Answer as Reply
 use Rattle.dshot_bank_spec.specs.State.{Core, Bank, Buffers}
 use Rattle.dshot_bank_spec.specs.Commands.{enableBidirectional, commandThrottles, commandSpecial, requestTelemetry}

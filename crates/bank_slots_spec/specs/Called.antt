@@ -8,8 +8,8 @@ use mathlib.Core.List.{List, [], _∷_, _++_, map}
 use mathlib.Core.Option.{Option, none, some}
 use lib.Dec.{eqb}
 use lib.ListN.{length, replicate, getD}
-use Rattle.dshot_reply_spec.specs.Answer.{pick, wrongLength}
-use Rattle.dshot_bank_spec.specs.Lanes.{if_then_else_}
+use Rattle.dshot_reply_spec.specs.Answer.{if_then_else_}
+use Rattle.dshot_reply_spec.specs.Refusals.{wrongLength}
 use Rattle.dshot_bank_spec.specs.State.{Bank, Buffers}
 use Rattle.dshot_bank_spec.specs.Calls.{Call, Answer, done, refused, motor-sent, serviced, interrupted, replied, flag, counts, values, reply-counts, slots, State}
 use Rattle.dshot_bank_spec.specs.Steps.{step}

@@ -6,7 +6,8 @@ use mathlib.Core.Bool.{Bool, not}
 use mathlib.Core.List.{List, [], _∷_, _++_}
 use mathlib.Core.Option.{Option, none, some}
 use lib.Dec.{eqb, ltb}
-use Rattle.dshot_reply_spec.specs.Answer.{Answer, given, refused, pick, noReply}
+use Rattle.dshot_reply_spec.specs.Answer.{Answer, given, refused, if_then_else_}
+use Rattle.dshot_reply_spec.specs.Refusals.{noReply}
 use Rattle.dshot_reply_spec.specs.Value.{Reading, erpm, temp, volt, amp, debug, state, edt}
 use Rattle.dshot_spec.specs.Timing.{Timing}
 use Rattle.dshot_spec.specs.Command.{CommandRun}
@@ -20,19 +21,20 @@ flag n = not (eqb n 0)
 
 -- a motor or none: 0 is none, else the lane is one less, modulo 4
 abbrev pub choice : ℕ → Option ℕ
-choice n = pick (eqb n 0) none (some ((n - 1) % 4))
+choice n = if eqb n 0 then none else some ((n - 1) % 4)
 
 -- a reply by its kind and number: 0 to 6 are readings, in the order of the Rust's `DshotReply`, 7 to 11 document 01's refusals, and any other is 7
 abbrev pub reply : ℕ → ℕ → Answer Reading
 reply k n =
-    pick (eqb k 0) (given (erpm n))
-    (pick (eqb k 1) (given (temp (n % 256)))
-    (pick (eqb k 2) (given (volt (n % 256)))
-    (pick (eqb k 3) (given (amp (n % 256)))
-    (pick (eqb k 4) (given (debug (n / 256 % 256) (n % 256)))
-    (pick (eqb k 5) (given (state (n % 256)))
-    (pick (eqb k 6) (given edt)
-    (pick (ltb k 12) (refused k) (refused noReply))))))))
+    if eqb k 0 then given (erpm n) else
+    if eqb k 1 then given (temp (n % 256)) else
+    if eqb k 2 then given (volt (n % 256)) else
+    if eqb k 3 then given (amp (n % 256)) else
+    if eqb k 4 then given (debug (n / 256 % 256) (n % 256)) else
+    if eqb k 5 then given (state (n % 256)) else
+    if eqb k 6 then given edt else
+    if ltb k 12 then refused k else
+    refused noReply
 
 -- four of something, by its place
 abbrev pub four : {A : Type 0} → (ℕ → A) → List A
@@ -61,7 +63,7 @@ module _ (m : ℕ → ℕ) where
   sequenceAt = record { commands = m (RUN + 1) ∷ m (RUN + 2) ∷ []; index = m (RUN + 3) % 256; repeatsLeft = m (RUN + 4) % 256 }
 
   abbrev pub runAt : Option MotorRun
-  runAt = pick (eqb (m RUN) 0) none (some (record { motor = (m RUN - 1) % 4; sequence = sequenceAt }))
+  runAt = if eqb (m RUN) 0 then none else some (record { motor = (m RUN - 1) % 4; sequence = sequenceAt })
 
   abbrev pub frameAt : Frame
   frameAt = record {

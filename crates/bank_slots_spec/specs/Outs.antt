@@ -6,7 +6,8 @@ use mathlib.Core.List.{List, [], _∷_, _++_, map}
 use mathlib.Core.Option.{Option, none, some}
 use lib.Dec.{eqb}
 use lib.ListN.{length, replicate, getD}
-use Rattle.dshot_reply_spec.specs.Answer.{given, refused, pick, noReply}
+use Rattle.dshot_reply_spec.specs.Answer.{given, refused, if_then_else_}
+use Rattle.dshot_reply_spec.specs.Refusals.{noReply}
 use Rattle.dshot_reply_spec.specs.Answer as Reply
 use Rattle.dshot_reply_spec.specs.Value.{Reading}
 use Rattle.dshot_reply_spec.specs.Kind.{kindNumber, readingNumber}
@@ -103,4 +104,4 @@ slotsOf (slots l) = l
 
 -- what lent slots hold after an answer: what is made of it, or what they held before where it is a refusal
 unfoldable pub outAfter : Answer → List ℕ → List ℕ
-outAfter a before = pick (eqb (number a) 0) (slotsOf a) before
+outAfter a before = if eqb (number a) 0 then slotsOf a else before

@@ -12,7 +12,7 @@ use Rattle.dshot_bank_spec.specs.Replies.{wrappingAdd}
 use Rattle.dshot_bank_spec.specs.Commands.{nextCommandFrame}
 use Rattle.dshot_bank_spec.specs.Service.{repliesRead, readReplies}
 use Rattle.dshot_bank_spec.specs.Send.{countFault, turnMarks, carry}
-use Rattle.dshot_reply_spec.specs.Answer.{pick}
+use Rattle.dshot_reply_spec.specs.Answer.{if_then_else_}
 use Rattle.bank_slots_spec.specs.Load.{reply}
 use Rattle.bank_slots_spec.specs.Memory.{Row, _holds_, at, write, word, wordRows}
 
@@ -63,7 +63,7 @@ marksTurned turned c = withFrame (withInSecond (turnMarks 4 turned (c .frame .in
 
 -- an ordinary frame carries the pending request, and a special command's none
 abbrev pub carriedBy : Bool → Core → Option ℕ
-carriedBy ordinary c = pick ordinary (c .telemetry .request) none
+carriedBy ordinary c = if ordinary then c .telemetry .request else none
 
 abbrev pub requestCarried : Bool → Core → Core
 requestCarried ordinary c = withTelemetry (carry (carriedBy ordinary c) (c .telemetry)) c

@@ -5,8 +5,8 @@ use mathlib.Core.Path.{_≡_}
 use mathlib.Core.Bool.{Bool}
 use mathlib.Core.List.{List, [], _∷_}
 use lib.ListN.{length}
-use Rattle.dshot_reply_spec.specs.Answer.{pick, wrongLength}
-use Rattle.dshot_bank_spec.specs.Lanes.{if_then_else_}
+use Rattle.dshot_reply_spec.specs.Answer.{if_then_else_}
+use Rattle.dshot_reply_spec.specs.Refusals.{wrongLength}
 use Rattle.dshot_bank_spec.specs.State.{Buffers}
 use Rattle.dshot_bank_spec.specs.Calls.{Call, Answer, refused, State, Stepped, told}
 use Rattle.dshot_bank_spec.specs.Steps.{step}
@@ -74,22 +74,22 @@ leaves (one-more {ys = ys} c e o n w rest) = ys ∷ leaves rest
 -- the bank's calls among them, those whose slices fit, and their part of a trace
 abbrev pub fitting : List Made → List Call
 fitting [] = []
-fitting (m ∷ ms) = pick (m .fits) (m .call ∷ fitting ms) (fitting ms)
+fitting (m ∷ ms) = if m .fits then m .call ∷ fitting ms else fitting ms
 
 abbrev pub fittingOf : List Made → List Stepped → List Stepped
 fittingOf [] rs = []
 fittingOf (m ∷ ms) [] = []
-fittingOf (m ∷ ms) (r ∷ rs) = pick (m .fits) (r ∷ fittingOf ms rs) (fittingOf ms rs)
+fittingOf (m ∷ ms) (r ∷ rs) = if m .fits then r ∷ fittingOf ms rs else fittingOf ms rs
 
 -- a list without its calls that only look, and what is left of its trace
 abbrev pub actingMade : List Made → List Made
 actingMade [] = []
-actingMade (m ∷ ms) = pick (isLook (m .call)) (actingMade ms) (m ∷ actingMade ms)
+actingMade (m ∷ ms) = if isLook (m .call) then actingMade ms else m ∷ actingMade ms
 
 abbrev pub actingMadeOf : List Made → List Stepped → List Stepped
 actingMadeOf [] rs = []
 actingMadeOf (m ∷ ms) [] = []
-actingMadeOf (m ∷ ms) (r ∷ rs) = pick (isLook (m .call)) (actingMadeOf ms rs) (r ∷ actingMadeOf ms rs)
+actingMadeOf (m ∷ ms) (r ∷ rs) = if isLook (m .call) then actingMadeOf ms rs else r ∷ actingMadeOf ms rs
 
 -- two lists alike but in one lane's captures
 pub data MadeAlike (lane : ℕ) : List Made → List Made → Type 0 where

@@ -6,7 +6,7 @@ use mathlib.Core.Bool.{Bool, false}
 use mathlib.Core.List.{List, [], _∷_, _++_}
 use mathlib.Core.Option.{Option, none, some}
 use lib.ListN.{getD, replicate}
-use Rattle.dshot_reply_spec.specs.Answer.{Answer, given, refused, pick}
+use Rattle.dshot_reply_spec.specs.Answer.{Answer, given, refused, if_then_else_}
 use Rattle.dshot_reply_spec.specs.Value.{Reading, erpm, temp, volt, amp, debug, state, edt}
 use Rattle.dshot_spec.specs.Timing.{Timing}
 use Rattle.dshot_spec.specs.Command.{CommandRun}
@@ -17,7 +17,7 @@ use Rattle.bank_slots_spec.specs.Places.{slots, TIMING, VALUES, LEASE-ST
 use Rattle.bank_slots_spec.specs.Load.{reply, four, fourLists}
 
 abbrev pub bit : Bool → ℕ
-bit b = pick b 1 0
+bit b = if b then 1 else 0
 
 abbrev pub choiceSlot : Option ℕ → ℕ
 choiceSlot none = 0

@@ -6,7 +6,7 @@ use mathlib.Core.Path.{_≡_}
 use mathlib.Core.Bool.{Bool, true, false}
 use mathlib.Core.List.{List}
 use lib.Dec.{eqb, ltb}
-use Rattle.dshot_reply_spec.specs.Answer.{pick}
+use Rattle.dshot_reply_spec.specs.Answer.{if_then_else_}
 use Rattle.bank_slots_spec.specs.Memory.{at, word}
 use Rattle.bank_slots_spec.specs.Places.{BUSY, FAULTED, BIDIRECTIONAL, RECEIVING, REPLIES-WAITING, REPLIES-HELD, IN-SECOND, REQUEST, REQUEST-SENT, RUN, REPLIES}
 
@@ -19,16 +19,17 @@ isChoice n = ltb n 5
 -- without a run its slots are 0
 abbrev pub isRun : ℕ → ℕ → ℕ → ℕ → ℕ → Bool
 isRun motor first second index left =
-    pick (eqb motor 0) (pick (eqb first 0) (pick (eqb second 0) (pick (eqb index 0) (eqb left 0) false) false) false)
-    (pick (ltb motor 5) (pick (ltb index 256) (ltb left 256) false) false)
+    if eqb motor 0 then (if eqb first 0 then (if eqb second 0 then (if eqb index 0 then eqb left 0 else false) else false) else false) else
+    if ltb motor 5 then (if ltb index 256 then ltb left 256 else false) else false
 
 -- the numbers that a reply of each kind may have
 abbrev pub isReply : ℕ → ℕ → Bool
 isReply kind n =
-    pick (eqb kind 0) true
-    (pick (eqb kind 4) (ltb n 65536)
-    (pick (ltb kind 6) (ltb n 256)
-    (pick (ltb kind 12) (eqb n 0) false)))
+    if eqb kind 0 then true else
+    if eqb kind 4 then ltb n 65536 else
+    if ltb kind 6 then ltb n 256 else
+    if ltb kind 12 then eqb n 0 else
+    false
 
 module _ (m : ℕ → ℕ) where
   abbrev pub FlagsWritten : Type 0

@@ -4,14 +4,15 @@ use mathlib.Core.Path.{_≡_, refl}
 use mathlib.Core.Bool.{Bool, true, false}
 use Prim.Native.Nat.{ℕ}
 use native.Mathlib.Omega.{arith}
-use Rattle.dshot_reply_spec.specs.Answer.{Answer, given, refused, then, pick, isGiven, notACapture}
+use Rattle.dshot_reply_spec.specs.Answer.{Answer, given, refused, andThen, pick, isGiven}
+use Rattle.dshot_reply_spec.specs.Refusals.{notACapture}
 use Rattle.dshot_reply_spec.proofs.Choice.{not-both}
 
 pub same-given : {A : Type 0} {x y : A} → given x ≡ given y → x ≡ y
 same-given e = cc
 
 -- what is refused before a step that refuses nothing was refused so
-pub then-refused : {A B : Type 0} {n : ℕ} (a : Answer A) (f : A → B) → then a (λ x. given (f x)) ≡ refused n → a ≡ refused n
+pub then-refused : {A B : Type 0} {n : ℕ} (a : Answer A) (f : A → B) → andThen a (λ x. given (f x)) ≡ refused n → a ≡ refused n
 then-refused (given x) f e = absurd (not-both refl e)
 then-refused (refused m) f e = cc
 
@@ -20,7 +21,7 @@ pub data Read {A : Type 0} : Answer A → Type 0 where
   found : (x : A) → Read (given x)
   lacking : Read (refused notACapture)
 
-pub read-then : {A B : Type 0} {a : Answer A} (f : A → Answer B) → Read a → ((x : A) → Read (f x)) → Read (then a f)
+pub read-then : {A B : Type 0} {a : Answer A} (f : A → Answer B) → Read a → ((x : A) → Read (f x)) → Read (andThen a f)
 read-then f (found x) h = h x
 read-then f lacking h = lacking
 

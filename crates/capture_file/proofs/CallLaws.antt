@@ -8,7 +8,8 @@ use native.Mathlib.Omega.{arith}
 use lib.Dec.{eqb, ltb}
 use lib.ListN.{length}
 use borrow.Author.Tests.{eq-eqb, ne-eqb, lt-ltb, le-ltb, ltb-false}
-use Rattle.dshot_reply_spec.specs.Answer.{Answer, given, refused, then, isGiven, notACapture, wrongLength, filled}
+use Rattle.dshot_reply_spec.specs.Answer.{Answer, given, refused, andThen, isGiven, filled}
+use Rattle.dshot_reply_spec.specs.Refusals.{notACapture, wrongLength}
 use Rattle.dshot_reply_spec.proofs.Choice.{not-both}
 use Rattle.dshot_reply_spec.proofs.Given.{first-given, second-given, then-given}
 use Rattle.capture_file.proofs.AnswerLaws.{same-given, not-given, is-given}
@@ -74,11 +75,11 @@ tells n head = given (record { count = n; mask = head .mask; edt = head .edt })
 -- the answer and the slots of a call that reads a file
 abbrev pub ReadSo : List ℕ → List ℕ → Answer Told → List ℕ → Type 0
 ReadSo bytes slots answer after =
-    (answer ≡ then (readInto bytes slots) told) × (after ≡ filled (slotsOf slots) slots (readInto bytes slots))
+    (answer ≡ andThen (readInto bytes slots) told) × (after ≡ filled (slotsOf slots) slots (readInto bytes slots))
 
 module _ (bytes slots : List ℕ) where
   refused-so : (n : ℕ) → readInto bytes slots ≡ refused n → ReadSo bytes slots (refused n) slots
-  refused-so n e = (sym (ap (λ (a : Answer Capture). then a told) e), sym (ap (filled (slotsOf slots) slots) e))
+  refused-so n e = (sym (ap (λ (a : Answer Capture). andThen a told) e), sym (ap (filled (slotsOf slots) slots) e))
 
   pub wrong-slots : (length slots ≡ fileSamples → ⊥) → ReadSo bytes slots (refused wrongLength) slots
   unfolding readInto
@@ -113,18 +114,18 @@ module _ (bytes slots : List ℕ) where
           let n : head .count ≡ length (k .0) = sym (all-length (head .count) (head .rest) (k .0) (k .1)) in
           let answer = ap (λ (m : ℕ). tells m head) n in
           let slots-so = f ∙ ap (filled (front slots) slots) (k .1) in
-          (answer ∙ sym (ap (λ (a : Answer Capture). then a told) whole), slots-so ∙ sym (ap (filled (slotsOf slots) slots) whole))
+          (answer ∙ sym (ap (λ (a : Answer Capture). andThen a told) whole), slots-so ∙ sym (ap (filled (slotsOf slots) slots) whole))
 
 -- ---- a file that is written
 
 -- the answer and the buffer of a call that writes a file
 abbrev pub WrittenSo : Capture → List ℕ → Answer ℕ → List ℕ → Type 0
 WrittenSo c out answer after =
-    (answer ≡ then (writtenInto c out) byteCount) × (after ≡ filled (front out) out (writtenInto c out))
+    (answer ≡ andThen (writtenInto c out) byteCount) × (after ≡ filled (front out) out (writtenInto c out))
 
 module _ (c : Capture) (out : List ℕ) where
-  written-so : (a : Answer (List ℕ)) → writtenInto c out ≡ a → WrittenSo c out (then a byteCount) (filled (front out) out a)
-  written-so a e = (sym (ap (λ (x : Answer (List ℕ)). then x byteCount) e), sym (ap (filled (front out) out) e))
+  written-so : (a : Answer (List ℕ)) → writtenInto c out ≡ a → WrittenSo c out (andThen a byteCount) (filled (front out) out a)
+  written-so a e = (sym (ap (λ (x : Answer (List ℕ)). andThen x byteCount) e), sym (ap (filled (front out) out) e))
 
   pub too-many : fileSamples < length (c .samples) → WrittenSo c out (refused wrongLength) out
   unfolding writtenInto
@@ -146,7 +147,7 @@ module _ (c : Capture) (out : List ℕ) where
         (ap given e ∙ so .0, f ∙ put-first (fileOf c) out ∙ so .1)
 
 -- a length that is answered is one of a file
-pub written-fits : (c : Capture) (out : List ℕ) (n : ℕ) → given n ≡ then (writtenInto c out) byteCount → n ≤ fileBytes
+pub written-fits : (c : Capture) (out : List ℕ) (n : ℕ) → given n ≡ andThen (writtenInto c out) byteCount → n ≤ fileBytes
 unfolding writtenInto
 written-fits c out n e =
     let w = then-given (writtenInto c out) byteCount (sym e) in

@@ -5,7 +5,8 @@ use mathlib.Core.Bool.{true, false}
 use mathlib.Core.List.{List, [], _∷_}
 use Prim.Native.Nat.{ℕ}
 use lib.ListN.{replicate}
-use Rattle.dshot_reply_spec.specs.Answer.{Answer, given, refused, notACapture}
+use Rattle.dshot_reply_spec.specs.Answer.{Answer, given, refused}
+use Rattle.dshot_reply_spec.specs.Refusals.{notACapture}
 use Rattle.capture_file.specs.Groups.{groups, readNumber}
 use Rattle.capture_file.specs.File.{Capture, capture, fileOf, readHead, readFile}
 

@@ -12,7 +12,7 @@ use lib.ListN.{length, take, replicate, length-append, length-replicate}
 use lib.Seq.{length-take-le, take-all}
 use Rattle.dshot_reply_spec.proofs.Cases.{lt-or-ge}
 use Rattle.dshot_reply_spec.proofs.Simulated.{simulated-written, simulated-length}
-use Rattle.dshot_reply_spec.specs.Answer.{Answer, given, refused, then}
+use Rattle.dshot_reply_spec.specs.Answer.{Answer, given, refused, andThen}
 use Rattle.dshot_reply_spec.specs.Gcr.{replyWord}
 use Rattle.dshot_reply_spec.specs.Simulate.{levelSample, simulated, wordLevels, wordSamples}
 use Rattle.capture_file.specs.File.{fileSamples, fileBytes, Capture, capture, UpTo, Valid, fileOf, readFile}
@@ -26,9 +26,9 @@ use Rattle.capture_file.proofs.Listing.{simulated-listed, document-line
 use Rattle.capture_file.proofs.Theorems.{written-reads, read-written, longest, only-refusal}
 
 -- the line of a file is that of what it reads as
-line-of-read : (bytes : List ℕ) (a : Answer Capture) → readFile bytes ≡ a → fileLine bytes ≡ lineOf (then a listedCapture)
+line-of-read : (bytes : List ℕ) (a : Answer Capture) → readFile bytes ≡ a → fileLine bytes ≡ lineOf (andThen a listedCapture)
 unfolding fileLine
-line-of-read bytes a e = ap (λ (x : Answer Capture). lineOf (then x listedCapture)) e
+line-of-read bytes a e = ap (λ (x : Answer Capture). lineOf (andThen x listedCapture)) e
 
 pub written-line : (c : Capture) → Valid c → fileLine (fileOf c) ≡ lineOf (listedCapture c)
 written-line c v = line-of-read (fileOf c) (given c) (written-reads c v)
@@ -39,7 +39,7 @@ refused-line bytes n e = line-of-read bytes (refused n) e ∙ ap (λ (k : ℕ). 
 
 pub file-line-fits : (bytes : List ℕ) → length (fileLine bytes) ≤ 29
 unfolding fileLine
-file-line-fits bytes = line-fits (then (readFile bytes) listedCapture)
+file-line-fits bytes = line-fits (andThen (readFile bytes) listedCapture)
 
 -- as the code hands it out
 pub file-line-room : (bytes : List ℕ) (r : Line) → r ≡ padded (fileLine bytes) → (r .length ≤ 29) × (length (r .bytes) ≡ 32)

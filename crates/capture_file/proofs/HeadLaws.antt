@@ -5,7 +5,8 @@ use mathlib.Core.List.{List}
 use Prim.Native.Nat.{ℕ, _≤_, _<_}
 use lib.Dec.{eqb, ltb}
 use borrow.Author.Tests.{lt-ltb, le-ltb, ltb-false}
-use Rattle.dshot_reply_spec.specs.Answer.{given, refused, notACapture}
+use Rattle.dshot_reply_spec.specs.Answer.{given, refused}
+use Rattle.dshot_reply_spec.specs.Refusals.{notACapture}
 use Rattle.dshot_reply_spec.proofs.Given.{second-given, then-given}
 use Rattle.capture_file.proofs.AnswerLaws.{same-given}
 use Rattle.capture_file.specs.Groups.{Headed, readNumber}

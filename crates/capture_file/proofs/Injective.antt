@@ -4,7 +4,8 @@ use mathlib.Core.Path.{_≡_, refl}
 use Prim.Native.Nat.{ℕ}
 use lib.Dec.{eqb}
 use Rattle.dshot_reply_spec.proofs.Inverse.{injective}
-use Rattle.dshot_reply_spec.specs.Answer.{Answer, given, refused, pick, notACapture}
+use Rattle.dshot_reply_spec.specs.Answer.{Answer, given, refused, pick}
+use Rattle.dshot_reply_spec.specs.Refusals.{notACapture}
 use Rattle.capture_file.specs.File.{Told}
 use Rattle.capture_file.specs.FileAnswers.{readAnswer, writtenAnswer}
 use Rattle.capture_file.specs.declared.file.CaptureRead.{CaptureRead}

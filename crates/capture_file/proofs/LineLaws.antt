@@ -11,7 +11,7 @@ use lib.Seq.{set-append-seam, append-snoc}
 use borrow.Author.Tests.{lt-ltb}
 use Rattle.dshot_reply_spec.proofs.Cases.{lt-or-ge}
 use Rattle.dshot_reply_spec.proofs.Table.{at}
-use Rattle.dshot_reply_spec.specs.Answer.{Answer, given, refused, then}
+use Rattle.dshot_reply_spec.specs.Answer.{Answer, given, refused, andThen}
 use Rattle.dshot_reply_spec.specs.Kind.{kindNumber, readingNumber}
 use Rattle.capture_file.specs.declared.line.Line.{Line}
 use Rattle.capture_file.specs.Line.{Listed, kindTexts, kindText, lineOf, padded}
@@ -72,5 +72,5 @@ written-line a = written-padded [] (lineOf a) (omega (arith, line-fits a))
 
 -- the line of what the next step makes of an answer, which was found to be another
 pub told : {A : Type 0} {a b : Answer A} {r : Line} (next : A → Answer Listed)
-    → a ≡ b → r ≡ padded (lineOf (then a next)) → r ≡ padded (lineOf (then b next))
-told next e h = h ∙ ap (λ x. padded (lineOf (then x next))) e
+    → a ≡ b → r ≡ padded (lineOf (andThen a next)) → r ≡ padded (lineOf (andThen b next))
+told next e h = h ∙ ap (λ x. padded (lineOf (andThen x next))) e

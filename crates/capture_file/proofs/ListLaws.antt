@@ -6,7 +6,7 @@ use Prim.Native.Nat.{ℕ, _≤_}
 use native.Mathlib.Omega.{arith}
 use lib.ListN.{length, take, drop}
 use lib.Seq.{take-append-seam}
-use Rattle.dshot_reply_spec.specs.Answer.{Answer, given, refused, then, filled}
+use Rattle.dshot_reply_spec.specs.Answer.{Answer, given, refused, andThen, filled}
 use Rattle.dshot_reply_spec.proofs.Given.{then-given}
 use Rattle.capture_file.proofs.AnswerLaws.{same-given, then-refused}
 use Rattle.capture_file.proofs.CallLaws.{into-is, into-given, file-few}
@@ -16,14 +16,14 @@ use Rattle.capture_file.specs.Line.{listedOf, lineOf, padded}
 use Rattle.capture_file.specs.Listing.{listedCapture, fileLine}
 
 module _ (bytes slots : List ℕ) where
-  pub refused-file : {n : ℕ} {r : Line} → length slots ≡ fileSamples → refused n ≡ then (readInto bytes slots) told
+  pub refused-file : {n : ℕ} {r : Line} → length slots ≡ fileSamples → refused n ≡ andThen (readInto bytes slots) told
       → r ≡ padded (lineOf (refused n)) → r ≡ padded (fileLine bytes)
   unfolding fileLine
   refused-file h e g =
       let none = sym (into-is bytes slots h) ∙ then-refused (readInto bytes slots) _ (sym e) in
-      g ∙ sym (ap (λ (a : Answer Capture). padded (lineOf (then a listedCapture))) none)
+      g ∙ sym (ap (λ (a : Answer Capture). padded (lineOf (andThen a listedCapture))) none)
 
-  module _ (t : Told) (e : given t ≡ then (readInto bytes slots) told) where
+  module _ (t : Told) (e : given t ≡ andThen (readInto bytes slots) told) where
     -- the capture that was told of
     pub capture-of : (c : Capture) × (readInto bytes slots ≡ given c) × (told c ≡ given t)
     capture-of = then-given (readInto bytes slots) told (sym e)
@@ -48,4 +48,4 @@ module _ (bytes slots : List ℕ) where
         ∙ ap (λ (x : Told). padded (lineOf (listedOf (take (x .count) after) (x .mask) (x .edt)))) (sym (same-given (c .2)))
         ∙ ap (λ (l : List ℕ). line (take (length xs) l)) whole
         ∙ ap line first
-        ∙ sym (ap (λ (a : Answer Capture). padded (lineOf (then a listedCapture))) (into-given bytes slots (c .0) (c .1)))
+        ∙ sym (ap (λ (a : Answer Capture). padded (lineOf (andThen a listedCapture))) (into-given bytes slots (c .0) (c .1)))

@@ -17,7 +17,7 @@ use Rattle.dshot_reply_spec.proofs.ReadingKinds.{number-most}
 use Rattle.dshot_reply_spec.proofs.Rendered.{rendered-read}
 use Rattle.dshot_reply_spec.proofs.Simulated.{simulated-renders}
 use Rattle.dshot_reply_spec.proofs.Words.{transitions-start}
-use Rattle.dshot_reply_spec.specs.Answer.{Answer, given, refused, then}
+use Rattle.dshot_reply_spec.specs.Answer.{Answer, given, refused, andThen}
 use Rattle.dshot_reply_spec.specs.Gcr.{decodeWord, replyWord, wordOf}
 use Rattle.dshot_reply_spec.specs.Kind.{readingNumber}
 use Rattle.dshot_reply_spec.specs.Reading.{sampledReply, wordReply}
@@ -33,33 +33,33 @@ use Rattle.capture_file.proofs.DigitsBack.{hexadecimal-back, decimal-ba
 
 -- a step after a step is a step after both
 then-then : {A B C : Type 0} (a : Answer A) (f : A → Answer B) (g : B → Answer C) (h : A → Answer C)
-    → ((x : A) → then (f x) g ≡ h x) → then (then a f) g ≡ then a h
+    → ((x : A) → andThen (f x) g ≡ h x) → andThen (andThen a f) g ≡ andThen a h
 then-then (given x) f g h e = e x
 then-then (refused n) f g h e = refl
 
-then-given : {A : Type 0} (a : Answer A) → then a given ≡ a
+then-given : {A : Type 0} (a : Answer A) → andThen a given ≡ a
 then-given (given x) = refl
 then-given (refused n) = refl
 
 abbrev reading : Listed → Answer Reading
 reading l = given (l .reading)
 
-value-reads : (w v : ℕ) (extended : Bool) → then (listedValue w v extended) reading ≡ replyOf v extended
+value-reads : (w v : ℕ) (extended : Bool) → andThen (listedValue w v extended) reading ≡ replyOf v extended
 unfolding listedValue
 value-reads w v extended = then-then (replyOf v extended) _ reading given (λ r. refl) ∙ then-given (replyOf v extended)
 
-word-reads : (w : ℕ) (extended : Bool) → then (listedWord w extended) reading ≡ wordReply w extended
+word-reads : (w : ℕ) (extended : Bool) → andThen (listedWord w extended) reading ≡ wordReply w extended
 unfolding listedWord wordReply
 word-reads w extended = then-then (decodeWord w) _ reading _ (λ v. value-reads w v extended)
 
 pub listed-reads : (samples : List ℕ) (mask : ℕ) (extended : Bool)
-    → then (listedOf samples mask extended) (λ l. given (l .reading)) ≡ sampledReply 3 samples mask extended
+    → andThen (listedOf samples mask extended) (λ l. given (l .reading)) ≡ sampledReply 3 samples mask extended
 unfolding listedOf sampledReply
 listed-reads samples mask extended = then-then (transitionsOf 3 samples mask) _ reading _ (λ w. word-reads w extended)
 
 -- ---- what is listed is what each layer gives, and nothing of it is cut off
 
-then-gives : {A B : Type 0} {y : B} (a : Answer A) (f : A → Answer B) → then a f ≡ given y → (x : A) × ((a ≡ given x) × (f x ≡ given y))
+then-gives : {A B : Type 0} {y : B} (a : Answer A) (f : A → Answer B) → andThen a f ≡ given y → (x : A) × ((a ≡ given x) × (f x ≡ given y))
 then-gives (given x) f e = (x, (refl, e))
 then-gives (refused n) f e = absurd (not-both e refl)
 
@@ -99,7 +99,7 @@ pub rendered-listed : (samples : List ℕ) (mask : ℕ) (extended : Bool) (v : �
 unfolding listedOf listedWord transitionsOf
 rendered-listed samples mask extended v r =
     ⊎-elim
-    (λ e. ap (λ t. then t (λ w. listedWord w extended)) e ∙ ap (λ d. then d (λ x. listedValue (replyWord v) x extended)) (decode-reply v))
+    (λ e. ap (λ t. andThen t (λ w. listedWord w extended)) e ∙ ap (λ d. andThen d (λ x. listedValue (replyWord v) x extended)) (decode-reply v))
     (λ q. absurd (not-both (decode-reply v) (ends-in-zeros (replyWord v) (q .1))))
     (rendered-read 3 (lit< tt) (levels mask samples) (replyWord v) r)
 

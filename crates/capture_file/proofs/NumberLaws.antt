@@ -8,7 +8,8 @@ use native.Mathlib.Omega.{arith}
 use lib.Dec.{eqb, ltb}
 use lib.ListN.{length}
 use borrow.Author.Tests.{eqb-false, ltb-false, ne-eqb, lt-ltb, le-ltb}
-use Rattle.dshot_reply_spec.specs.Answer.{Answer, given, refused, then, pick, notACapture}
+use Rattle.dshot_reply_spec.specs.Answer.{Answer, given, refused, andThen, pick}
+use Rattle.dshot_reply_spec.specs.Refusals.{notACapture}
 use Rattle.dshot_reply_spec.proofs.Cases.{lt-or-ge}
 use Rattle.dshot_reply_spec.proofs.Choice.{not-both}
 use Rattle.dshot_reply_spec.proofs.Given.{second-given, then-given}
@@ -64,7 +65,7 @@ last-group b s h = rw (lt-ltb b 128 h)
 
 -- what a group with the top bit makes of the number after it
 abbrev pub longer : ℕ → Answer Headed → Answer Headed
-longer b a = then a (λ r. pick (eqb (r .number) 0) (refused notACapture) (given (headed (b - 128 + 128 * r .number) (r .rest))))
+longer b a = andThen a (λ r. pick (eqb (r .number) 0) (refused notACapture) (given (headed (b - 128 + 128 * r .number) (r .rest))))
 
 pub more-groups : (b : ℕ) (s : List ℕ) → 128 ≤ b → readGroups (b ∷ s) ≡ longer b (readGroups s)
 more-groups b s h = rw (le-ltb b 128 h)
@@ -95,7 +96,7 @@ read-groups n s h = ⊎-elim (read-one n s) (λ l. read-more n s l h (read-two (
 pub number-read : (n : ℕ) (s : List ℕ) → n ≤ 65535 → readNumber (groups n ++ s) ≡ given (headed n s)
 unfolding readNumber
 number-read n s h =
-    ap (λ (a : Answer Headed). then a (λ r. pick (ltb 65535 (r .number)) (refused notACapture) (given r))) (read-groups n s h)
+    ap (λ (a : Answer Headed). andThen a (λ r. pick (ltb 65535 (r .number)) (refused notACapture) (given r))) (read-groups n s h)
     ∙ rw (le-ltb 65535 n h)
 
 -- ---- a number is read from its own groups

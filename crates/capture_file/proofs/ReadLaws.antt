@@ -12,7 +12,8 @@ use lib.Dec.{eqb, ltb}
 use lib.ListN.{length, drop, getD, List·getD-eq-default}
 use lib.Seq.{drop-cons, getD-drop}
 use borrow.Author.Tests.{eq-eqb, lt-ltb, le-ltb}
-use Rattle.dshot_reply_spec.specs.Answer.{Answer, given, refused, then, pick, notACapture}
+use Rattle.dshot_reply_spec.specs.Answer.{Answer, given, refused, andThen, pick}
+use Rattle.dshot_reply_spec.specs.Refusals.{notACapture}
 use Rattle.dshot_reply_spec.proofs.Cases.{lt-or-ge}
 use Rattle.capture_file.proofs.AnswerLaws.{same-given, Read, found, lacking, read-then, read-pick}
 use Rattle.capture_file.proofs.NumberLaws.{last-group, longer, more-groups, longer-given, longer-from, pos}
@@ -22,7 +23,7 @@ use Rattle.capture_file.specs.Groups.{Headed, headed, readGroups, readNu
 
 -- what becomes of an answer whose number may be of any size
 abbrev bounded : Answer Headed → Answer Headed
-bounded a = then a (λ r. pick (ltb 65535 (r .number)) (refused notACapture) (given r))
+bounded a = andThen a (λ r. pick (ltb 65535 (r .number)) (refused notACapture) (given r))
 
 number-is : (s : List ℕ) (a : Answer Headed) → readGroups s ≡ a → readNumber s ≡ bounded a
 unfolding readNumber

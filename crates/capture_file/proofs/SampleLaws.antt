@@ -11,7 +11,8 @@ use lib.Dec.{leb}
 use lib.ListN.{length, drop, set, length-set, drop-of-length-le}
 use lib.Seq.{drop-cons}
 use borrow.Author.Tests.{le-leb, lt-leb}
-use Rattle.dshot_reply_spec.specs.Answer.{Answer, given, refused, then, isGiven, notACapture, filled}
+use Rattle.dshot_reply_spec.specs.Answer.{Answer, given, refused, andThen, isGiven, filled}
+use Rattle.dshot_reply_spec.specs.Refusals.{notACapture}
 use Rattle.dshot_reply_spec.proofs.Cases.{lt-or-ge}
 use Rattle.dshot_reply_spec.proofs.Choice.{not-both}
 use Rattle.dshot_reply_spec.proofs.Given.{then-given}
@@ -24,16 +25,16 @@ use Rattle.capture_file.specs.FileSteps.{put}
 -- ---- the next sample that is read
 
 abbrev another : ℕ → Answer (List ℕ) → Answer (List ℕ)
-another x a = then a (λ xs. given (x ∷ xs))
+another x a = andThen a (λ xs. given (x ∷ xs))
 
 same-known : (x : ℕ) (a : Answer (List ℕ)) → isGiven (another x a) ≡ isGiven a
 same-known x (given xs) = refl
 same-known x (refused n) = refl
 
 all-next : (n m : ℕ) (s : List ℕ) (a : Answer Headed) → n ≡ suc m → readNumber s ≡ a
-    → readAll n s ≡ then a (λ r. another (r .number) (readAll m (r .rest)))
+    → readAll n s ≡ andThen a (λ r. another (r .number) (readAll m (r .rest)))
 all-next n m s a e f =
-    ap (λ (k : ℕ). readAll k s) e ∙ ap (λ (x : Answer Headed). then x (λ r. another (r .number) (readAll m (r .rest)))) f
+    ap (λ (k : ℕ). readAll k s) e ∙ ap (λ (x : Answer Headed). andThen x (λ r. another (r .number) (readAll m (r .rest)))) f
 
 module _ (n : ℕ) (s : List ℕ) (some : 0 < n) where
   all-none : readNumber s ≡ refused notACapture → readAll n s ≡ refused notACapture

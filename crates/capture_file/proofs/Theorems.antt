@@ -6,7 +6,8 @@ use Prim.Native.Nat.{ℕ, zero, suc, _≤_, _<_}
 use native.Mathlib.Omega.{arith}
 use lib.ListN.{length, getD}
 use borrow.Author.Tests.{eq-eqb, le-ltb}
-use Rattle.dshot_reply_spec.specs.Answer.{given, refused, notACapture}
+use Rattle.dshot_reply_spec.specs.Answer.{given, refused}
+use Rattle.dshot_reply_spec.specs.Refusals.{notACapture}
 use Rattle.capture_file.proofs.AnswerLaws.{same-given, same-refusal}
 use Rattle.capture_file.proofs.ReadBack.{file-read, file-most}
 use Rattle.capture_file.proofs.OneFile.{file-written}

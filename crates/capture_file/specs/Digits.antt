@@ -4,11 +4,11 @@
 use Prim.Native.Nat.{ℕ, _+_, _-_, _*_}
 use mathlib.Core.List.{List, [], _∷_}
 use lib.Dec.{ltb}
-use Rattle.dshot_reply_spec.specs.Answer.{pick}
+use Rattle.dshot_reply_spec.specs.Answer.{if_then_else_}
 
 -- the value of a digit: 0 to 9 stand before a to f in ASCII
 unfoldable pub digitValue : ℕ → ℕ
-digitValue b = pick (ltb b 97) (b - 48) (b - 87)
+digitValue b = if ltb b 97 then b - 48 else b - 87
 
 -- the number that v and the digits after it make in a base
 abbrev pub digitsValue : ℕ → ℕ → List ℕ → ℕ

@@ -5,7 +5,8 @@ use mathlib.Core.Bool.{Bool}
 use mathlib.Core.List.{List, [], _∷_, _++_}
 use lib.Dec.{eqb, ltb}
 use lib.ListN.{length, drop}
-use Rattle.dshot_reply_spec.specs.Answer.{Answer, given, refused, then, pick, notACapture, wrongLength}
+use Rattle.dshot_reply_spec.specs.Answer.{Answer, given, refused, andThen, if_then_else_}
+use Rattle.dshot_reply_spec.specs.Refusals.{notACapture, wrongLength}
 use Rattle.capture_file.specs.Groups.{groups, readNumber, readAll}
 
 -- the most samples that a file holds, and the most bytes that it has then
@@ -41,7 +42,7 @@ allGroups (x ∷ xs) = groups x ++ allGroups xs
 
 -- the bytes of a file
 unfoldable pub fileOf : Capture → List ℕ
-fileOf c = groups (length (c .samples)) ++ (groups (c .mask) ++ (groups (pick (c .edt) 1 0) ++ allGroups (c .samples)))
+fileOf c = groups (length (c .samples)) ++ (groups (c .mask) ++ (groups (if c .edt then 1 else 0) ++ allGroups (c .samples)))
 
 -- what stands before the samples of a file, and the bytes of these
 pub record Head : Type 0 where
@@ -52,18 +53,18 @@ pub record Head : Type 0 where
 
 unfoldable pub readHead : List ℕ → Answer Head
 readHead bytes =
-    then (readNumber bytes) (λ count.
-    then (readNumber (count .rest)) (λ mask.
-    then (readNumber (mask .rest)) (λ edt.
-    pick (ltb fileSamples (count .number)) (refused notACapture)
-    (pick (ltb 1 (edt .number)) (refused notACapture)
-    (given (record { count = count .number; mask = mask .number; edt = eqb (edt .number) 1; rest = edt .rest }))))))
+    andThen (readNumber bytes) (λ count.
+    andThen (readNumber (count .rest)) (λ mask.
+    andThen (readNumber (mask .rest)) (λ edt.
+    if ltb fileSamples (count .number) then refused notACapture else
+    if ltb 1 (edt .number) then refused notACapture else
+    given (record { count = count .number; mask = mask .number; edt = eqb (edt .number) 1; rest = edt .rest }))))
 
 -- the capture that a file holds; bytes that are no file are refused
 unfoldable pub readFile : List ℕ → Answer Capture
 readFile bytes =
-    then (readHead bytes) (λ h.
-    then (readAll (h .count) (h .rest)) (λ xs.
+    andThen (readHead bytes) (λ h.
+    andThen (readAll (h .count) (h .rest)) (λ xs.
     given (capture (h .mask) (h .edt) xs)))
 
 -- ---- the two calls
@@ -78,13 +79,14 @@ slotsOf slots c = front slots (c .samples)
 
 -- a file read into slots, of which there are as many as a file has samples at most
 unfoldable pub readInto : List ℕ → List ℕ → Answer Capture
-readInto bytes slots = pick (eqb (length slots) fileSamples) (readFile bytes) (refused wrongLength)
+readInto bytes slots = if eqb (length slots) fileSamples then readFile bytes else refused wrongLength
 
 -- the bytes of a capture, for a buffer that has room for every file
 unfoldable pub writtenInto : Capture → List ℕ → Answer (List ℕ)
 writtenInto c out =
-    pick (ltb fileSamples (length (c .samples))) (refused wrongLength)
-    (pick (eqb (length out) fileBytes) (given (fileOf c)) (refused wrongLength))
+    if ltb fileSamples (length (c .samples)) then refused wrongLength else
+    if eqb (length out) fileBytes then given (fileOf c) else
+    refused wrongLength
 
 -- what the reader tells of a capture beside its samples
 pub record Told : Type 0 where

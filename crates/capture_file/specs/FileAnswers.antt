@@ -1,7 +1,8 @@
 -- The answers of the enums that read and write capture files, in document 01's numbers and values.
 -- Assumes nothing.
 use Prim.Native.Nat.{ℕ}
-use Rattle.dshot_reply_spec.specs.Answer.{Answer, given, refused, notACapture, wrongLength}
+use Rattle.dshot_reply_spec.specs.Answer.{Answer, given, refused}
+use Rattle.dshot_reply_spec.specs.Refusals.{notACapture, wrongLength}
 use Rattle.capture_file.specs.File.{Told}
 use Rattle.capture_file.specs.declared.file.CaptureRead.{CaptureRead}
 use Rattle.capture_file.specs.declared.file.CaptureRead.the-variants as Read

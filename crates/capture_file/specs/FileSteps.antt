@@ -3,7 +3,8 @@
 use Prim.Native.Nat.{ℕ, _+_}
 use mathlib.Core.List.{List, _++_}
 use lib.ListN.{length, take, drop}
-use Rattle.dshot_reply_spec.specs.Answer.{Answer, given, refused, notACapture}
+use Rattle.dshot_reply_spec.specs.Answer.{Answer, given, refused}
+use Rattle.dshot_reply_spec.specs.Refusals.{notACapture}
 use Rattle.capture_file.specs.Groups.{Headed, headed}
 use Rattle.capture_file.specs.File.{Head}
 use Rattle.capture_file.specs.declared.number.NumberRead.{NumberRead}

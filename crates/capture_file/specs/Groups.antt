@@ -3,14 +3,15 @@
 use Prim.Native.Nat.{ℕ, zero, suc, _+_, _-_, _*_, _/_, _%_}
 use mathlib.Core.List.{List, [], _∷_}
 use lib.Dec.{eqb, ltb}
-use Rattle.dshot_reply_spec.specs.Answer.{Answer, given, refused, then, pick, notACapture}
+use Rattle.dshot_reply_spec.specs.Answer.{Answer, given, refused, andThen, if_then_else_}
+use Rattle.dshot_reply_spec.specs.Refusals.{notACapture}
 
 -- a number up to 65535 in one, two or three groups of seven bits, lowest first, 128 added to all groups but the last
 unfoldable pub groups : ℕ → List ℕ
 groups n =
-    pick (ltb n 128) (n ∷ [])
-    (pick (ltb n 16384) ((128 + n % 128) ∷ n / 128 ∷ [])
-    ((128 + n % 128) ∷ (128 + n / 128 % 128) ∷ n / 16384 ∷ []))
+    if ltb n 128 then n ∷ [] else
+    if ltb n 16384 then (128 + n % 128) ∷ n / 128 ∷ [] else
+    (128 + n % 128) ∷ (128 + n / 128 % 128) ∷ n / 16384 ∷ []
 
 -- a number at the head of bytes, and the bytes after it
 pub record Headed : Type 0 where
@@ -24,16 +25,15 @@ headed n s = record { number = n; rest = s }
 abbrev pub readGroups : List ℕ → Answer Headed
 readGroups [] = refused notACapture
 readGroups (b ∷ s) =
-    pick (ltb b 128) (given (headed b s))
-    (then (readGroups s) (λ r.
-    pick (eqb (r .number) 0) (refused notACapture) (given (headed (b - 128 + 128 * r .number) (r .rest)))))
+    if ltb b 128 then given (headed b s) else andThen (readGroups s) (λ r.
+    if eqb (r .number) 0 then refused notACapture else given (headed (b - 128 + 128 * r .number) (r .rest)))
 
 -- the same up to 65535, so in three groups at most
 unfoldable pub readNumber : List ℕ → Answer Headed
-readNumber bytes = then (readGroups bytes) (λ r. pick (ltb 65535 (r .number)) (refused notACapture) (given r))
+readNumber bytes = andThen (readGroups bytes) (λ r. if ltb 65535 (r .number) then refused notACapture else given r)
 
 -- n numbers, and nothing after them
 abbrev pub readAll : ℕ → List ℕ → Answer (List ℕ)
 readAll zero [] = given []
 readAll zero (b ∷ s) = refused notACapture
-readAll (suc n) s = then (readNumber s) (λ r. then (readAll n (r .rest)) (λ xs. given (r .number ∷ xs)))
+readAll (suc n) s = andThen (readNumber s) (λ r. andThen (readAll n (r .rest)) (λ xs. given (r .number ∷ xs)))

@@ -8,7 +8,7 @@ use mathlib.Core.Bool.{Bool}
 use mathlib.Core.List.{List, [], _∷_, _++_}
 use lib.Dec.{ltb}
 use lib.ListN.{length, getD, replicate}
-use Rattle.dshot_reply_spec.specs.Answer.{Answer, given, refused, then, pick}
+use Rattle.dshot_reply_spec.specs.Answer.{Answer, given, refused, andThen, if_then_else_}
 use Rattle.dshot_reply_spec.specs.Gcr.{decodeWord}
 use Rattle.dshot_reply_spec.specs.Kind.{kindNumber, readingNumber}
 use Rattle.dshot_reply_spec.specs.Runs.{transitionsOf}
@@ -23,13 +23,13 @@ pub record Listed : Type 0 where
 
 -- of a word's value, of a word, and of a capture of three samples a bit: what each layer of the reader gives, or the first refusal
 unfoldable pub listedValue : ℕ → ℕ → Bool → Answer Listed
-listedValue w v extended = then (replyOf v extended) (λ r. given (record { word = w; value = v; reading = r }))
+listedValue w v extended = andThen (replyOf v extended) (λ r. given (record { word = w; value = v; reading = r }))
 
 unfoldable pub listedWord : ℕ → Bool → Answer Listed
-listedWord w extended = then (decodeWord w) (λ v. listedValue w v extended)
+listedWord w extended = andThen (decodeWord w) (λ v. listedValue w v extended)
 
 unfoldable pub listedOf : List ℕ → ℕ → Bool → Answer Listed
-listedOf samples mask extended = then (transitionsOf 3 samples mask) (λ w. listedWord w extended)
+listedOf samples mask extended = andThen (transitionsOf 3 samples mask) (λ w. listedWord w extended)
 
 -- a text in ASCII
 abbrev pub ascii : String → List ℕ
@@ -48,7 +48,7 @@ hexadecimal (suc n) x = hexadecimal n (x / 16) ++ (digit (x % 16) ∷ [])
 -- a number's decimal digits, with no leading zeros; at most n, which are enough for a number below 10 ^ n
 unfoldable pub decimalWithin : ℕ → ℕ → List ℕ
 decimalWithin zero x = []
-decimalWithin (suc n) x = pick (ltb x 10) (digit x ∷ []) (decimalWithin n (x / 10) ++ (digit (x % 10) ∷ []))
+decimalWithin (suc n) x = if ltb x 10 then digit x ∷ [] else decimalWithin n (x / 10) ++ (digit (x % 10) ∷ [])
 
 -- ten are enough for 32 bits
 abbrev pub decimal : ℕ → List ℕ

@@ -2,7 +2,7 @@
 -- Assumes nothing.
 use Prim.Native.Nat.{ℕ}
 use mathlib.Core.List.{List}
-use Rattle.dshot_reply_spec.specs.Answer.{Answer, then}
+use Rattle.dshot_reply_spec.specs.Answer.{Answer, andThen}
 use Rattle.capture_file.specs.File.{Capture, readFile}
 use Rattle.capture_file.specs.Line.{Listed, listedOf, lineOf}
 
@@ -12,4 +12,4 @@ listedCapture c = listedOf (c .samples) (c .mask) (c .edt)
 
 -- a file that holds no capture is refused before any reading
 unfoldable pub fileLine : List ℕ → List ℕ
-fileLine bytes = lineOf (then (readFile bytes) listedCapture)
+fileLine bytes = lineOf (andThen (readFile bytes) listedCapture)

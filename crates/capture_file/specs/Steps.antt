@@ -4,12 +4,12 @@ use Prim.Native.Nat.{ℕ, _+_}
 use mathlib.Core.List.{List, [], _∷_}
 use lib.Dec.{ltb}
 use lib.ListN.{set}
-use Rattle.dshot_reply_spec.specs.Answer.{pick}
+use Rattle.dshot_reply_spec.specs.Answer.{if_then_else_}
 use Rattle.capture_file.specs.declared.line.Line.{Line}
 
 -- one byte more at the end of a line that is not full
 unfoldable pub pushed : Line → ℕ → Line
-pushed line b = pick (ltb (line .length) 32) (record { bytes = set (line .bytes) (line .length) b; length = line .length + 1 }) line
+pushed line b = if ltb (line .length) 32 then record { bytes = set (line .bytes) (line .length) b; length = line .length + 1 } else line
 
 -- bytes one after the other
 abbrev pub written : Line → List ℕ → Line

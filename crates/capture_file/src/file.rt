@@ -7,7 +7,7 @@ ghost use mathlib.Core.Path.{_≡_};
 ghost use mathlib.Core.Bool.{true};
 ghost use Prim.Native.Nat.{_+_, _≤_};
 ghost use lib.ListN.{length, drop};
-ghost use Rattle.dshot_reply_spec.specs.Answer.{then, pick, isGiven, filled};
+ghost use Rattle.dshot_reply_spec.specs.Answer.{andThen, pick, isGiven, filled};
 ghost use Rattle.capture_file.specs.Groups.{readAll};
 ghost use Rattle.capture_file.specs.File.{allGroups, capture, readHead, front, slotsOf, readInto, writtenInto, told, byteCount};
 ghost use Rattle.capture_file.specs.FileAnswers.{readAnswer, writtenAnswer};
@@ -128,7 +128,7 @@ pub enum CaptureRead {
 // Reads a file whose samples go into the first of `FILE_SAMPLES` slots. The others stay as they were, and all of them where the answer is a
 // refusal: the whole file is read before the first slot is filled.
 pub fn read_capture(file: &[u8], samples: &mut [u16]) -> CaptureRead
-    ensures { λ r. ⌜ readAnswer r ≡ then (readInto (now (file .entry)) (now (samples .entry))) told ⌝ }
+    ensures { λ r. ⌜ readAnswer r ≡ andThen (readInto (now (file .entry)) (now (samples .entry))) told ⌝ }
     ensures { λ r. ⌜ now (samples .exit)
         ≡ filled (slotsOf (now (samples .entry))) (now (samples .entry)) (readInto (now (file .entry)) (now (samples .entry))) ⌝ }
 {
@@ -190,7 +190,7 @@ pub fn write_capture(
     file: &mut [u8],
 ) -> CaptureWritten
     ensures { λ r. ⌜ writtenAnswer r
-        ≡ then (writtenInto (capture «pin_mask» «extended_telemetry» (now (samples .entry))) (now (file .entry))) byteCount ⌝ }
+        ≡ andThen (writtenInto (capture «pin_mask» «extended_telemetry» (now (samples .entry))) (now (file .entry))) byteCount ⌝ }
     ensures { λ r. ⌜ now (file .exit)
         ≡ filled (front (now (file .entry))) (now (file .entry))
         (writtenInto (capture «pin_mask» «extended_telemetry» (now (samples .entry))) (now (file .entry))) ⌝ }

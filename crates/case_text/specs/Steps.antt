@@ -2,11 +2,11 @@
 -- Assumes nothing.
 use Prim.Native.Nat.{ℕ}
 use lib.Dec.{ltb}
-use Rattle.dshot_reply_spec.specs.Answer.{pick}
+use Rattle.dshot_reply_spec.specs.Answer.{if_then_else_}
 use Rattle.case_text.specs.declared.numbers.Grown.{Grown}
 use Rattle.case_text.specs.declared.numbers.Grown.the-variants.{To, TooLarge}
 use Rattle.case_text.specs.Numbers.{past64}
 
 -- a number that 64 bits hold, or that it is too large
 unfoldable pub grown : ℕ → Grown
-grown n = pick (ltb n past64) (To n) TooLarge
+grown n = if ltb n past64 then To n else TooLarge

@@ -10,7 +10,7 @@ use lib.Dec.{lit<}
 use lib.ListN.{length, getD, drop, drop-of-length-le, take}
 use lib.Pow.{pow-mono}
 use lib.Seq.{drop-cons}
-use Rattle.dshot_reply_spec.specs.Answer.{Answer, given, refused, then}
+use Rattle.dshot_reply_spec.specs.Answer.{Answer, given, refused, andThen}
 use Rattle.dshot_spec.proofs.SequenceReads.{duty-read}
 use Rattle.dshot_spec.specs.Sequence.{Sequence, dutyBit, wordFrom, readSequence}
 use Rattle.dshot_spec.specs.Packet.{readPacket}
@@ -29,7 +29,7 @@ module _ (t : Timing) (ds : List ℕ) where
 
   -- the rest, by its first duty
   step : {i w : ℕ} → SoFar i w → i < length ds
-      → wordFrom t 0 ds ≡ then (dutyBit t (getD ds i 0)) (λ b. wordFrom t (2 * w + b) (drop (suc i) ds))
+      → wordFrom t 0 ds ≡ andThen (dutyBit t (getD ds i 0)) (λ b. wordFrom t (2 * w + b) (drop (suc i) ds))
   step {i} {w} s h = s .rest ∙ ap (wordFrom t w) (drop-cons ds i 0 h)
 
   pub one-more : {i w b : ℕ} → SoFar i w → i < length ds → dutyBit t (getD ds i 0) ≡ given b → SoFar (i + 1) (w * 2 + b)
@@ -40,7 +40,7 @@ module _ (t : Timing) (ds : List ℕ) where
       record {
         within = omega arith;
         small = rw (add-one i, p) (omega (arith, s .small));
-        rest = step s h ∙ ap (λ (a : Answer ℕ). then a (λ c. wordFrom t (2 * w + c) (drop (suc i) ds))) e ∙ rw (q, add-one i);
+        rest = step s h ∙ ap (λ (a : Answer ℕ). andThen a (λ c. wordFrom t (2 * w + c) (drop (suc i) ds))) e ∙ rw (q, add-one i);
       }
 
   -- the word stays below sixteen bits
@@ -48,14 +48,14 @@ module _ (t : Timing) (ds : List ℕ) where
   room {i} l s h e = let m = one-more s h e in lt-of-lt-of-le (m .small) (pow-mono {i = i + 1} {j = 16} (omega (arith, m .within)))
 
   pub no-bit : {i w n : ℕ} → SoFar i w → i < length ds → dutyBit t (getD ds i 0) ≡ refused n → wordFrom t 0 ds ≡ refused n
-  no-bit {i} {w} s h e = step s h ∙ ap (λ (a : Answer ℕ). then a (λ c. wordFrom t (2 * w + c) (drop (suc i) ds))) e
+  no-bit {i} {w} s h e = step s h ∙ ap (λ (a : Answer ℕ). andThen a (λ c. wordFrom t (2 * w + c) (drop (suc i) ds))) e
 
   pub all-read : {i w : ℕ} → SoFar i w → length ds ≤ i → wordFrom t 0 ds ≡ given w
   all-read {i} {w} s h = s .rest ∙ ap (wordFrom t w) (drop-of-length-le ds {i = i} h)
 
 -- a sequence whose length, high times and closing zero are right says what its word says
 pub sequence-tested : (t : Timing) (s : Sequence) → length (s .slots) ≡ 16 → (t .zeroHigh ≡ t .oneHigh → ⊥) → getD (s .slots) 15 0 ≡ 0
-    → readSequence t s ≡ then (wordFrom t 0 (s .first ∷ take 15 (s .slots))) readPacket
+    → readSequence t s ≡ andThen (wordFrom t 0 (s .first ∷ take 15 (s .slots))) readPacket
 unfolding readSequence
 sequence-tested t s l n z =
     rw (eq-eqb (length (s .slots)) 16 l, ne-eqb (t .zeroHigh) (t .oneHigh) n, eq-eqb (getD (s .slots) 15 0) 0 z)

@@ -3,7 +3,8 @@
 -- Assumes nothing.
 use Prim.Native.Nat.{ℕ}
 use mathlib.Core.List.{List, map}
-use Rattle.dshot_reply_spec.specs.Answer.{Answer, given, refused, zeroTimerClock, zeroBitrate, periodTooShort, periodTooLong, valueOutOfRange, wrongLength, wrongDuty, wrongPacketChecksum}
+use Rattle.dshot_reply_spec.specs.Answer.{Answer, given, refused}
+use Rattle.dshot_reply_spec.specs.Refusals.{zeroTimerClock, zeroBitrate, periodTooShort, periodTooLong, valueOutOfRange, wrongLength, wrongDuty, wrongPacketChecksum}
 use Rattle.dshot_spec.specs.Packet.{Kind, plain, inverted, Frame}
 use Rattle.dshot_spec.specs.Packet as Packet
 use Rattle.dshot_spec.specs.Timing.{Timing}

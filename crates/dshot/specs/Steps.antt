@@ -1,7 +1,8 @@
 -- The answers of private functions, in the terms of the definitions. No promise of a public call cites these.
 -- Assumes nothing.
 use Prim.Native.Nat.{ℕ}
-use Rattle.dshot_reply_spec.specs.Answer.{Answer, given, refused, wrongDuty}
+use Rattle.dshot_reply_spec.specs.Answer.{Answer, given, refused}
+use Rattle.dshot_reply_spec.specs.Refusals.{wrongDuty}
 use Rattle.dshot.specs.declared.read.DutyBit.{DutyBit}
 use Rattle.dshot.specs.declared.read.DutyBit.the-variants as Duty
 use Rattle.dshot.specs.declared.read.WordRead.{WordRead}

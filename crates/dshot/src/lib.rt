@@ -5,6 +5,12 @@
 // DShot frames: the packet word of a value, the timer counts and the duties that it is sent as, and runs of special commands.
 
 use dshot_reply::REPLY_SAMPLES_PER_BIT;
+use dshot_reply::refusals::PERIOD_TOO_LONG;
+use dshot_reply::refusals::PERIOD_TOO_SHORT;
+use dshot_reply::refusals::VALUE_OUT_OF_RANGE;
+use dshot_reply::refusals::WRONG_LENGTH;
+use dshot_reply::refusals::ZERO_BITRATE;
+use dshot_reply::refusals::ZERO_TIMER_CLOCK;
 ghost use mathlib.Core.Path.{_≡_};
 ghost use Prim.Native.Nat.{_+_, _-_, _%_, _≤_, _<_, min};
 ghost use lib.Dec.{ltb};
@@ -48,7 +54,7 @@ impl DshotFrameError {
         ensures { λ r. ⌜ r ≡ frameErrorNumber self ⌝ }
     {
         match self {
-            DshotFrameError::ValueOutOfRange => 5,
+            DshotFrameError::ValueOutOfRange => VALUE_OUT_OF_RANGE,
         }
     }
 }
@@ -179,10 +185,10 @@ impl DshotTimingError {
         ensures { λ r. ⌜ r ≡ timingErrorNumber self ⌝ }
     {
         match self {
-            DshotTimingError::ZeroTimerClock => 1,
-            DshotTimingError::ZeroBitrate => 2,
-            DshotTimingError::PeriodTooShort => 3,
-            DshotTimingError::PeriodTooLong => 4,
+            DshotTimingError::ZeroTimerClock => ZERO_TIMER_CLOCK,
+            DshotTimingError::ZeroBitrate => ZERO_BITRATE,
+            DshotTimingError::PeriodTooShort => PERIOD_TOO_SHORT,
+            DshotTimingError::PeriodTooLong => PERIOD_TOO_LONG,
         }
     }
 }
@@ -269,7 +275,7 @@ impl Encoded {
     {
         match self {
             Encoded::Written => 0,
-            Encoded::WrongLength => 13,
+            Encoded::WrongLength => WRONG_LENGTH,
         }
     }
 }

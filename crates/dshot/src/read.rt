@@ -6,6 +6,9 @@ use crate::DSHOT_BITS;
 use crate::DshotPacket;
 use crate::DshotTiming;
 use crate::checksum_of;
+use dshot_reply::refusals::WRONG_DUTY;
+use dshot_reply::refusals::WRONG_LENGTH;
+use dshot_reply::refusals::WRONG_PACKET_CHECKSUM;
 ghost use mathlib.Core.Path.{_≡_};
 ghost use mathlib.Core.List.{_∷_};
 ghost use Prim.Native.Nat.{_<_, _≤_};
@@ -31,9 +34,9 @@ impl FrameReadError {
         ensures { λ r. ⌜ r ≡ readErrorNumber self ⌝ }
     {
         match self {
-            FrameReadError::WrongLength => 13,
-            FrameReadError::WrongDuty => 14,
-            FrameReadError::Checksum => 15,
+            FrameReadError::WrongLength => WRONG_LENGTH,
+            FrameReadError::WrongDuty => WRONG_DUTY,
+            FrameReadError::Checksum => WRONG_PACKET_CHECKSUM,
         }
     }
 }

@@ -10,11 +10,10 @@ use borrow.Author.Tests.{eqb-true}
 use lib.Dec.{eqb, ltb}
 use lib.ListN.{length, getD, take, drop, length-map, List·getD-map}
 use lib.Seq.{ext-getD}
-use Rattle.dshot_reply_spec.specs.Answer.{pick}
+use Rattle.dshot_reply_spec.specs.Answer.{pick, if_then_else_}
 use Rattle.dshot_spec.specs.Tabulate.{tabulate, part}
 use Rattle.dshot_spec.proofs.Tabulated.{length-tabulate, getD-tabulate}
-use Rattle.dshot_bank_spec.specs.Lanes.{if_then_else_}
-use Rattle.dshot_bank_spec.specs.Refusals.{noSuchMotor}
+use Rattle.dshot_reply_spec.specs.Refusals.{noSuchMotor}
 use Rattle.dshot_bank_spec.specs.Calls.{State, Stepped, sending, act}
 use Rattle.dshot_bank_spec.specs.Steps.{slotsFit, serviceFits, buffersFit, lengthRefusal, portRefusal, refuseOr, step}
 use Rattle.dshot_bank.specs.Views.{shown}

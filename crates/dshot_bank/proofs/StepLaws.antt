@@ -10,7 +10,7 @@ use Rattle.dshot_reply_spec.specs.Answer.{pick, given}
 use Rattle.dshot_reply_spec.specs.Answer as Reply
 use Rattle.dshot_bank_spec.specs.State.{Buffers}
 use Rattle.dshot_bank_spec.specs.State as Spec
-use Rattle.dshot_bank_spec.specs.Refusals.{noSuchMotor}
+use Rattle.dshot_reply_spec.specs.Refusals.{noSuchMotor}
 use Rattle.dshot_bank_spec.specs.With.{withDemand}
 use Rattle.dshot_bank_spec.specs.Calls.{Call, Answer, done, refused, State, told, changed, commanded, act}
 use Rattle.dshot_bank_spec.specs.Steps.{laneRefusal, portRefusal, refuseOr, step}

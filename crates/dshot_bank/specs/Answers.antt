@@ -9,9 +9,9 @@ use Rattle.dshot_reply_spec.specs.Value.{Reading}
 use Rattle.dshot_reply.specs.declared.DshotReplyError.the-variants as DshotReplyError·
 use Rattle.dshot_reply.specs.declared.ReplyRead.the-variants as ReplyRead·
 use Rattle.dshot_reply.specs.Answers.{replyAnswer}
-use Rattle.dshot_bank_spec.specs.Lanes.{if_then_else_}
+use Rattle.dshot_reply_spec.specs.Answer.{if_then_else_}
 use Rattle.dshot_bank_spec.specs.Calls as Spec
-use Rattle.dshot_bank_spec.specs.Refusals.{throttleOutOfRange, noSuchMotor, faulted, motorsRunning, commandPending, telemetryPending, repliesUnsupported}
+use Rattle.dshot_reply_spec.specs.Refusals.{throttleOutOfRange, noSuchMotor, faulted, motorsRunning, commandPending, telemetryPending, repliesUnsupported}
 use Rattle.dshot_bank_spec.specs.Calls.{Answer, done, refused, replied}
 use Rattle.dshot_bank.specs.declared.commands.DshotInitError.{DshotInitError}
 use Rattle.dshot_bank.specs.declared.commands.DshotInitError.the-variants.{RepliesUnsupported}

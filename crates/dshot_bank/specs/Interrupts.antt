@@ -4,7 +4,7 @@
 use mathlib.Core.Path.{_≡_}
 use mathlib.Core.List.{List}
 use lib.ListN.{replicate}
-use Rattle.dshot_bank_spec.specs.Refusals.{noSuchMotor}
+use Rattle.dshot_reply_spec.specs.Refusals.{noSuchMotor}
 use Rattle.dshot_bank_spec.specs.Order.{Order}
 use Rattle.dshot_bank_spec.specs.Interrupt.{InterruptEvent, completed, faulted, spurious}
 use Rattle.dshot_bank_spec.specs.Interrupt as Spec

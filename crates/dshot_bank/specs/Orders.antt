@@ -6,7 +6,7 @@ use mathlib.Core.Path.{_≡_}
 use mathlib.Core.List.{List, [], _∷_, _++_}
 use lib.Dec.{eqb}
 use lib.ListN.{length, replicate}
-use Rattle.dshot_reply_spec.specs.Answer.{pick}
+use Rattle.dshot_reply_spec.specs.Answer.{if_then_else_}
 use Rattle.dshot_bank_spec.specs.Order.{exchange-buffer, start-dma, start-frame, stop-frame, force-outputs-low, pause-and-clear, begin-receive, end-receive}
 use Rattle.dshot_bank_spec.specs.Order as Spec
 use Rattle.dshot_bank_spec.specs.OrderNumber.{code, dutiesIn}
@@ -52,14 +52,15 @@ Begins o motor = o ≡ held (pause-and-clear (motorOf motor) ∷ [])
 -- the kind with a number
 abbrev pub kindAt : ℕ → OrderKind
 kindAt n =
-    pick (eqb n 1) ExchangeBuffer
-    (pick (eqb n 2) StartDma
-    (pick (eqb n 3) StartFrame
-    (pick (eqb n 4) StopFrame
-    (pick (eqb n 5) ForceOutputsLow
-    (pick (eqb n 6) PauseAndClear
-    (pick (eqb n 7) BeginReceive
-    (pick (eqb n 8) EndReceive None)))))))
+    if eqb n 1 then ExchangeBuffer else
+    if eqb n 2 then StartDma else
+    if eqb n 3 then StartFrame else
+    if eqb n 4 then StopFrame else
+    if eqb n 5 then ForceOutputsLow else
+    if eqb n 6 then PauseAndClear else
+    if eqb n 7 then BeginReceive else
+    if eqb n 8 then EndReceive else
+    None
 
 -- what the lowest seven bits say
 abbrev pub entryIn : ℕ → Order
@@ -67,10 +68,10 @@ entryIn codes = record { kind = kindAt (codes % 128 / 8); motor = codes % 128 % 
 
 -- the first order, and those after it
 abbrev pub firstOrder : Orders → Order
-firstOrder o = pick (eqb (o .count) 0) (record { kind = None; motor = 0 }) (entryIn (o .codes))
+firstOrder o = if eqb (o .count) 0 then record { kind = None; motor = 0 } else entryIn (o .codes)
 
 abbrev pub restOrders : Orders → Orders
-restOrders o = pick (eqb (o .count) 0) o (record { count = o .count - 1; codes = o .codes / 128 })
+restOrders o = if eqb (o .count) 0 then o else record { count = o .count - 1; codes = o .codes / 128 }
 
 -- an order by its kind and lane, with the first duties
 abbrev pub orderOf : List ℕ → OrderKind → ℕ → List Spec.Order

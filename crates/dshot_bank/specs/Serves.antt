@@ -3,7 +3,7 @@
 -- Assumes nothing.
 use mathlib.Core.Path.{_≡_}
 use mathlib.Core.List.{List, []}
-use Rattle.dshot_reply_spec.specs.Answer.{wrongLength}
+use Rattle.dshot_reply_spec.specs.Refusals.{wrongLength}
 use Rattle.dshot_bank_spec.specs.State.{Buffers}
 use Rattle.dshot_bank_spec.specs.Order.{Order}
 use Rattle.dshot_bank_spec.specs.Service.{ServiceEvent, frame-started, busy, lease-expired, faulted}

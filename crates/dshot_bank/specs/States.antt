@@ -5,12 +5,12 @@ use Prim.Native.Nat.{ℕ}
 use mathlib.Core.List.{List, [], _∷_, map}
 use mathlib.Core.Option.{Option, none, some}
 use Rattle.dshot_reply_spec.specs.Answer as Reply
-use Rattle.dshot_reply_spec.specs.Answer.{given, refused, noReply, overlong, invalidSymbol, wrongChecksum, zeroPeriod}
+use Rattle.dshot_reply_spec.specs.Answer.{given, refused, if_then_else_}
+use Rattle.dshot_reply_spec.specs.Refusals.{noReply, overlong, invalidSymbol, wrongChecksum, zeroPeriod}
 use Rattle.dshot_reply_spec.specs.Value.{Reading, erpm, temp, volt, amp, debug, state, edt}
 use Rattle.dshot.specs.Answers.{timingOf}
 use Rattle.dshot_bank_spec.specs.State.{Buffers, leaseOf}
 use Rattle.dshot_bank_spec.specs.State as Spec
-use Rattle.dshot_bank_spec.specs.Lanes.{if_then_else_}
 use Rattle.dshot_bank_spec.specs.Calls.{State, Answer, Stepped}
 use Rattle.dshot_bank.specs.declared.DshotMotor.{DshotMotor}
 use Rattle.dshot_bank.specs.declared.DshotMotor.the-variants.{Motor1, Motor2, Motor3, Motor4}

@@ -28,11 +28,13 @@ use dshot::Sequenced;
 use dshot::TelemetryLane;
 use dshot::encode_compare_sequence;
 use dshot::packets_of_kind;
+use dshot_reply::refusals::WRONG_LENGTH;
 ghost use mathlib.Core.Path.{_≡_};
 ghost use mathlib.Core.Bool.{not};
 ghost use Prim.Native.Nat.{_*_, _<_};
 ghost use lib.ListN.{length, set, replicate};
-ghost use Rattle.dshot_reply_spec.specs.Answer.{pick, wrongLength};
+ghost use Rattle.dshot_reply_spec.specs.Answer.{pick};
+ghost use Rattle.dshot_reply_spec.specs.Refusals.{wrongLength};
 ghost use Rattle.dshot_spec.specs.Sequence.{sequenceOf};
 ghost use Rattle.dshot.specs.Answers.{kindOf, laneOf, words, timingOf, commandOf, runOf};
 ghost use Rattle.dshot_bank_spec.specs.Lanes.{position};
@@ -323,7 +325,7 @@ pub fn encode_spares(
 {
     if !buffers_fit(first.len(), second.len()) {
         return Spares {
-            refusal: 13,
+            refusal: WRONG_LENGTH,
             first_duties: [0; LANES],
         };
     }

@@ -10,7 +10,7 @@ use native.Mathlib.Numerals.{add-one}
 use lib.Dec.{eqb}
 use lib.ListN.{length, getD}
 use borrow.Author.Tests.{eqb-true}
-use Rattle.dshot_reply_spec.specs.Answer.{Answer, given, refused, pick, refusalNumber, filled}
+use Rattle.dshot_reply_spec.specs.Answer.{Answer, given, refused, refusalNumber, filled, if_then_else_}
 use Rattle.dshot_reply_spec.proofs.Answered.{refused-so, given-so}
 use Rattle.dshot_spec.specs.Tabulate.{part}
 use Rattle.dshot_bank_spec.specs.Calls as Calls

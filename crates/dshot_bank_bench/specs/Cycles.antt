@@ -6,7 +6,8 @@ use mathlib.Core.Bool.{Bool, true, false, not}
 use mathlib.Core.List.{List, [], _∷_}
 use lib.Dec.{eqb}
 use lib.ListN.{length, getD, replicate}
-use Rattle.dshot_reply_spec.specs.Answer.{pick, wrongLength}
+use Rattle.dshot_reply_spec.specs.Answer.{if_then_else_}
+use Rattle.dshot_reply_spec.specs.Refusals.{wrongLength}
 use Rattle.dshot_reply_spec.specs.Answer as Reply
 use Rattle.dshot_reply_spec.specs.Value.{Reading, erpm, temp, volt, amp, debug, state, edt}
 use Rattle.dshot_spec.specs.Tabulate.{tabulate, part}
@@ -80,15 +81,15 @@ start arr low high sample bidirectional b =
 -- whether every slice has its length, where the captures are enough for n cycles
 unfoldable pub fit : ℕ → ℕ → ℕ → ℕ → ℕ → Bool
 fit n throttles first second numbers =
-    pick (eqb throttles (4 * n)) (pick (eqb first 64) (pick (eqb second 64) (eqb numbers 24) false) false) false
+    if eqb throttles (4 * n) then (if eqb first 64 then (if eqb second 64 then eqb numbers 24 else false) else false) else false
 
 -- what as many cycles as there are captures for leave of a new bank, if every slice has its length; a flag of 0 is no
 unfoldable pub asked : ℕ → ℕ → ℕ → ℕ → ℕ → ℕ → ℕ → ℕ → List ℕ → List ℕ → List ℕ → List ℕ → List ℕ → Reply.Answer Run
 asked arr low high sample bidirectional present mask count throttles captures first second numbers =
     let n = length captures / 640 in
-    pick (fit n (length throttles) (length first) (length second) (length numbers))
-    (Reply.given (cycles (not (eqb present 0)) mask count throttles captures (start arr low high sample (not (eqb bidirectional 0)) (record { first = first; second = second })) n))
-    (Reply.refused wrongLength)
+    if fit n (length throttles) (length first) (length second) (length numbers)
+    then Reply.given (cycles (not (eqb present 0)) mask count throttles captures (start arr low high sample (not (eqb bidirectional 0)) (record { first = first; second = second })) n)
+    else Reply.refused wrongLength
 
 -- ---- what is told of what is left
 
@@ -116,11 +117,12 @@ bankCounts s sum = s .framesStarted ∷ s .framesCompleted ∷ s .dmaFaults ∷ 
 -- of a lane, by the kind of count: its completions, its good and its bad replies, the bad ones since the last good one, its speed; and one that is not of a lane
 abbrev pub countOf : ℕ → ℕ → LaneReply → ℕ → ℕ
 countOf kind completions reply other =
-    pick (eqb kind 0) completions
-    (pick (eqb kind 1) (reply .valid)
-    (pick (eqb kind 2) (reply .invalid)
-    (pick (eqb kind 3) (reply .consecutiveInvalid)
-    (pick (eqb kind 4) (speed (reply .reply)) other))))
+    if eqb kind 0 then completions else
+    if eqb kind 1 then reply .valid else
+    if eqb kind 2 then reply .invalid else
+    if eqb kind 3 then reply .consecutiveInvalid else
+    if eqb kind 4 then speed (reply .reply) else
+    other
 
 -- what would stand where there is no lane
 abbrev pub noLane : LaneReply

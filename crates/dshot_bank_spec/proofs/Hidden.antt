@@ -6,7 +6,7 @@ use mathlib.Core.Option.{none, some, Option·none-ne-some, Option·some-injectiv
 use Prim.Native.Nat.{ℕ}
 use lib.ListN.{getD, set}
 use lib.Seq.{getD-set-other}
-use Rattle.dshot_reply_spec.specs.Answer.{noReply}
+use Rattle.dshot_reply_spec.specs.Refusals.{noReply}
 use Rattle.dshot_reply_spec.specs.Answer as Reply
 use Rattle.dshot_reply_spec.specs.Value.{Reading}
 use Rattle.dshot_bank_spec.specs.State.{LaneReply}

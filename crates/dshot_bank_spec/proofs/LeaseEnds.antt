@@ -7,10 +7,10 @@ use mathlib.Core.List.{List, []}
 use Prim.Native.Nat.{ℕ}
 use lib.Dec.{ltb}
 use lib.ListN.{replicate}
-use Rattle.dshot_reply_spec.specs.Answer.{pick}
+use Rattle.dshot_reply_spec.specs.Answer.{pick, if_then_else_}
 use Rattle.dshot_spec.specs.Lease.{leaseExpired}
 use Rattle.dshot_bank_spec.specs.State.{Demand, MotorRun, Frame, Core, LaneReply, Buffers}
-use Rattle.dshot_bank_spec.specs.Lanes.{if_then_else_, position}
+use Rattle.dshot_bank_spec.specs.Lanes.{position}
 use Rattle.dshot_bank_spec.specs.With.{withFrame, withRepliesHeld, withRepliesWaiting}
 use Rattle.dshot_bank_spec.specs.Commands.{MotorCommand, anyRequested, commandStop, clearRequestSent, nextOfRun, nextCommandFrame}
 use Rattle.dshot_bank_spec.specs.FrameSet.{frameSet, nextSet}

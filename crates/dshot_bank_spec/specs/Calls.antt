@@ -7,12 +7,12 @@ use mathlib.Core.Bool.{Bool, false}
 use mathlib.Core.List.{List, map}
 use mathlib.Core.Option.{Option, none, some}
 use lib.ListN.{getD}
-use Rattle.dshot_reply_spec.specs.Answer.{pick, given}
+use Rattle.dshot_reply_spec.specs.Answer.{given, if_then_else_}
 use Rattle.dshot_reply_spec.specs.Answer as Reply
 use Rattle.dshot_reply_spec.specs.Value.{Reading}
 use Rattle.dshot_spec.specs.Command.{CommandRun}
 use Rattle.dshot_spec.specs.Tabulate.{part}
-use Rattle.dshot_bank_spec.specs.Lanes.{if_then_else_, isSome}
+use Rattle.dshot_bank_spec.specs.Lanes.{isSome}
 use Rattle.dshot_bank_spec.specs.State.{Stats, Core, LaneReply, Bank, Buffers}
 use Rattle.dshot_bank_spec.specs.With.{withFrame, withRepliesHeld, withCore}
 use Rattle.dshot_bank_spec.specs.Order.{Order}
@@ -89,7 +89,7 @@ repliesTaken c = withFrame (withRepliesHeld false (c .frame)) c
 
 -- the sequence that a lane is sending
 abbrev pub sequenceSent : Core → Buffers → ℕ → List ℕ
-sequenceSent c b motor = part 16 motor (pick (getD (c .frame .inSecond) motor false) (b .second) (b .first))
+sequenceSent c b motor = part 16 motor (if getD (c .frame .inSecond) motor false then b .second else b .first)
 
 -- an answer, and all as it was
 abbrev pub told : State → Answer → Stepped

@@ -6,7 +6,7 @@ use mathlib.Core.Path.{_≡_}
 use mathlib.Core.Bool.{Bool, true, false}
 use mathlib.Core.List.{List, map}
 use lib.ListN.{getD, length}
-use Rattle.dshot_reply_spec.specs.Answer.{Rejected}
+use Rattle.dshot_reply_spec.specs.Answer.{Rejected, if_then_else_}
 use Rattle.dshot_reply_spec.specs.Answer as Reply
 use Rattle.dshot_reply_spec.specs.Runs.{levels}
 use Rattle.dshot_reply_spec.specs.Gcr.{replyWord}
@@ -15,7 +15,6 @@ use Rattle.dshot_reply_spec.specs.Render.{Renders, Damaged}
 use Rattle.dshot_reply_spec.specs.Move.{Moved}
 use Rattle.dshot_reply_spec.specs.Claims.{MovedEdge}
 use Rattle.dshot_spec.specs.Timing.{Timing}
-use Rattle.dshot_bank_spec.specs.Lanes.{if_then_else_}
 use Rattle.dshot_bank_spec.specs.State.{Buffers}
 use Rattle.dshot_bank_spec.specs.Commands.{noReplies}
 use Rattle.dshot_bank_spec.specs.Replies.{window, readWindow, countReply}

@@ -13,7 +13,8 @@ use Rattle.dshot_spec.specs.Timing.{Timing}
 use Rattle.dshot_spec.specs.Packet.{Kind, plain, inverted, TelemetryLane, motorPackets}
 use Rattle.dshot_spec.specs.Packet as Packet
 use Rattle.dshot_spec.specs.Sequence.{sequenceOf}
-use Rattle.dshot_bank_spec.specs.Lanes.{if_then_else_, each}
+use Rattle.dshot_bank_spec.specs.Lanes.{each}
+use Rattle.dshot_reply_spec.specs.Answer.{if_then_else_}
 use Rattle.dshot_bank_spec.specs.State.{Core, Buffers}
 use Rattle.dshot_bank_spec.specs.Commands.{MotorCommand, nextCommandFrame}
 

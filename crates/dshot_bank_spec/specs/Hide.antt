@@ -7,7 +7,7 @@ use mathlib.Core.Bool.{Bool}
 use mathlib.Core.List.{List, [], _∷_}
 use mathlib.Core.Option.{Option, none, some}
 use lib.ListN.{length, getD, set}
-use Rattle.dshot_reply_spec.specs.Answer.{noReply}
+use Rattle.dshot_reply_spec.specs.Refusals.{noReply}
 use Rattle.dshot_reply_spec.specs.Answer as Reply
 use Rattle.dshot_reply_spec.specs.Value.{Reading}
 use Rattle.dshot_bank_spec.specs.State.{LaneReply, Bank}

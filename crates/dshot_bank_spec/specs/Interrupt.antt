@@ -8,7 +8,7 @@ use mathlib.Core.List.{List, [], _∷_, _++_}
 use lib.Bits.{bitAnd, bitOr}
 use lib.Dec.{eqb}
 use lib.ListN.{getD, set}
-use Rattle.dshot_bank_spec.specs.Lanes.{if_then_else_}
+use Rattle.dshot_reply_spec.specs.Answer.{if_then_else_}
 use Rattle.dshot_bank_spec.specs.State.{Frame, Stats, Core}
 use Rattle.dshot_bank_spec.specs.With.{withFramesCompleted, withLaneCompletions, withCompletionMask, withBusy, withReceiving, withRepliesWaiting, withFrame, withStats}
 use Rattle.dshot_bank_spec.specs.Order.{Order, stop-frame, pause-and-clear, begin-receive, end-receive, latchOrders}

@@ -3,7 +3,6 @@ pub mod State
 pub mod With
 pub mod Order
 pub mod OrderNumber
-pub mod Refusals
 pub mod Commands
 pub mod Replies
 pub mod FrameSet

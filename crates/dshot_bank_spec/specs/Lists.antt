@@ -5,7 +5,7 @@ use Prim.Native.Nat.{ℕ}
 use mathlib.Core.Bool.{Bool, true, false}
 use mathlib.Core.List.{List, [], _∷_}
 use lib.ListN.{set}
-use Rattle.dshot_reply_spec.specs.Answer.{pick}
+use Rattle.dshot_reply_spec.specs.Answer.{if_then_else_}
 use Rattle.dshot_spec.specs.Timing.{Timing}
 use Rattle.dshot_bank_spec.specs.State.{Buffers}
 use Rattle.dshot_bank_spec.specs.Commands.{fromLanes}
@@ -58,13 +58,13 @@ isLook (lend buffers) = false
 -- a list without its calls that only look
 abbrev pub acting : List Call → List Call
 acting [] = []
-acting (c ∷ cs) = pick (isLook c) (acting cs) (c ∷ acting cs)
+acting (c ∷ cs) = if isLook c then acting cs else c ∷ acting cs
 
 -- what is left of a list's trace without them
 abbrev pub actingOf : List Call → List Stepped → List Stepped
 actingOf [] rs = []
 actingOf (c ∷ cs) [] = []
-actingOf (c ∷ cs) (r ∷ rs) = pick (isLook c) (actingOf cs rs) (r ∷ actingOf cs rs)
+actingOf (c ∷ cs) (r ∷ rs) = if isLook c then actingOf cs rs else r ∷ actingOf cs rs
 
 -- ---- refused calls
 
@@ -84,9 +84,9 @@ isRefused (slots l) = false
 -- a list without its refused calls
 abbrev pub accepted : ℕ → State → List Call → List Call
 accepted n s [] = []
-accepted n s (c ∷ cs) = pick (isRefused (step n s c .answer)) (accepted n s cs) (c ∷ accepted n (step n s c .state) cs)
+accepted n s (c ∷ cs) = if isRefused (step n s c .answer) then accepted n s cs else c ∷ accepted n (step n s c .state) cs
 
 -- a trace without its refusals
 abbrev pub acceptedOf : List Stepped → List Stepped
 acceptedOf [] = []
-acceptedOf (r ∷ rs) = pick (isRefused (r .answer)) (acceptedOf rs) (r ∷ acceptedOf rs)
+acceptedOf (r ∷ rs) = if isRefused (r .answer) then acceptedOf rs else r ∷ acceptedOf rs

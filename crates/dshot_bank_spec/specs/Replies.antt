@@ -6,11 +6,11 @@ use Prim.Native.Nat.{ℕ, _+_, _-_, _%_, _^_, min}
 use mathlib.Core.Bool.{Bool, false}
 use mathlib.Core.List.{List}
 use lib.ListN.{getD}
-use Rattle.dshot_reply_spec.specs.Answer.{Answer, refused, isGiven, noReply}
+use Rattle.dshot_reply_spec.specs.Answer.{Answer, refused, isGiven, if_then_else_}
+use Rattle.dshot_reply_spec.specs.Refusals.{noReply}
 use Rattle.dshot_reply_spec.specs.Value.{Reading}
 use Rattle.dshot_reply_spec.specs.Reading.{sampledReply}
 use Rattle.dshot_spec.specs.Tabulate.{tabulate, part}
-use Rattle.dshot_bank_spec.specs.Lanes.{if_then_else_}
 use Rattle.dshot_bank_spec.specs.State.{LaneReply}
 use Rattle.dshot_bank_spec.specs.Commands.{noReplies}
 

@@ -10,7 +10,8 @@ use mathlib.Core.Option.{Option, none}
 use lib.Dec.{ltb}
 use lib.ListN.{getD, set}
 use Rattle.dshot_spec.specs.Tabulate.{tabulate}
-use Rattle.dshot_bank_spec.specs.Lanes.{if_then_else_, each, position, isSome}
+use Rattle.dshot_bank_spec.specs.Lanes.{each, position, isSome}
+use Rattle.dshot_reply_spec.specs.Answer.{if_then_else_}
 use Rattle.dshot_bank_spec.specs.State.{Telemetry, Stats, Core, Buffers}
 use Rattle.dshot_bank_spec.specs.With.{withFramesStarted, withDmaFaults, withSpuriousInterrupts, withStartedMs, withCompletionMask, withBusy, withFaulted, withReceiving, withRepliesWaiting, withInSecond, withTelemetry, withCommandSequence, withFrame, withStats}
 use Rattle.dshot_bank_spec.specs.Order.{Order, startOrders, refusedOrders}

@@ -7,7 +7,7 @@ use mathlib.Core.Bool.{Bool, true, false, not}
 use mathlib.Core.List.{List, []}
 use mathlib.Core.Option.{Option, none, some}
 use Rattle.dshot_spec.specs.Lease.{leaseExpired}
-use Rattle.dshot_bank_spec.specs.Lanes.{if_then_else_}
+use Rattle.dshot_reply_spec.specs.Answer.{if_then_else_}
 use Rattle.dshot_bank_spec.specs.State.{Demand, Core, LaneReply, Bank, Buffers}
 use Rattle.dshot_bank_spec.specs.With.{withBusySkips, withLeaseExpiries, withFrameTimeouts, withRepliesWaiting, withRepliesHeld, withFrame, withStats}
 use Rattle.dshot_bank_spec.specs.Order.{Order, latchOrders}

@@ -7,7 +7,7 @@ use mathlib.Core.Bool.{Bool}
 use mathlib.Core.List.{List}
 use mathlib.Core.Option.{Option, none, some}
 use lib.Dec.{eqb}
-use Rattle.dshot_reply_spec.specs.Answer.{Answer, pick}
+use Rattle.dshot_reply_spec.specs.Answer.{Answer, if_then_else_}
 use Rattle.dshot_reply_spec.specs.Value.{Reading}
 use Rattle.dshot_spec.specs.Timing.{Timing}
 use Rattle.dshot_spec.specs.Command.{CommandRun}
@@ -20,7 +20,7 @@ pub record Demand : Type 0 where
 
 -- a lease kept as a number, where the Rust has an `Option<u32>`: 0 is none, else the duration is one less
 abbrev pub leaseOf : ℕ → Option ℕ
-leaseOf over = pick (eqb over 0) none (some (over - 1))
+leaseOf over = if eqb over 0 then none else some (over - 1)
 
 -- telemetry_request, telemetry_request_sent
 pub record Telemetry : Type 0 where

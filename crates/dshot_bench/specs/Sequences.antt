@@ -4,7 +4,8 @@ use Prim.Native.Nat.{ℕ, zero, suc}
 use mathlib.Core.List.{List, [], _++_}
 use lib.Dec.{eqb}
 use lib.ListN.{length, getD}
-use Rattle.dshot_reply_spec.specs.Answer.{Answer, given, refused, pick, wrongLength}
+use Rattle.dshot_reply_spec.specs.Answer.{Answer, given, refused, if_then_else_}
+use Rattle.dshot_reply_spec.specs.Refusals.{wrongLength}
 use Rattle.dshot_spec.specs.Packet.{inverted, TelemetryLane, motorPackets}
 use Rattle.dshot_spec.specs.Sequence.{sequenceOf}
 use Rattle.dshot_spec.specs.Tabulate.{tabulate}
@@ -17,11 +18,12 @@ timingOfCounts arr low high sample = record { arr = arr; zeroHigh = low; oneHigh
 -- the words of the packets, if every buffer has its length
 unfoldable pub built : List ℕ → TelemetryLane → List ℕ → List ℕ → Answer (List ℕ)
 built values telemetryLane slots firsts =
-    pick (eqb (length values) 4)
-    (pick (eqb (length slots) 64)
-    (pick (eqb (length firsts) 4) (given (motorPackets 4 inverted values telemetryLane)) (refused wrongLength))
-    (refused wrongLength))
-    (refused wrongLength)
+    if eqb (length values) 4 then
+    (if eqb (length slots) 64 then
+    (if eqb (length firsts) 4 then given (motorPackets 4 inverted values telemetryLane) else
+    refused wrongLength) else
+    refused wrongLength) else
+    refused wrongLength
 
 -- f 0, f 1, .. f (n - 1), joined
 unfoldable pub joined : ℕ → (ℕ → List ℕ) → List ℕ

@@ -14,7 +14,8 @@ use Rattle.dshot_reply_spec.proofs.Decode.{bad, symbol-small, taken, unequal}
 use Rattle.dshot_reply_spec.proofs.GcrLaws.{nibble-small}
 use Rattle.dshot_reply_spec.proofs.Table.{at}
 use Rattle.dshot_reply_spec.proofs.XorLaws.{nibble-xor}
-use Rattle.dshot_reply_spec.specs.Answer.{given, invalidSymbol, refused, wrongChecksum}
+use Rattle.dshot_reply_spec.specs.Answer.{given, refused}
+use Rattle.dshot_reply_spec.specs.Refusals.{invalidSymbol, wrongChecksum}
 use Rattle.dshot_reply_spec.specs.Gcr.{decodeWord, fromNibbles, nibbleAt, nibbleOf, symbolAt}
 
 abbrev Mark : ℕ → Type 0

@@ -11,7 +11,8 @@ use lib.Dec.{ltb}
 use lib.ListN.{length, getD, take, drop, length-map, length-drop}
 use lib.Seq.{drop-cons, drop-length, drop-drop, take-all, length-take-le}
 use borrow.Author.Tests.{le-leb, lt-leb, ltb-true, ltb-false}
-use Rattle.dshot_reply_spec.specs.Answer.{noReply, pick, refused}
+use Rattle.dshot_reply_spec.specs.Answer.{pick, refused}
+use Rattle.dshot_reply_spec.specs.Refusals.{noReply}
 use Rattle.dshot_reply_spec.specs.Runs.{assemble, firstLow, fromLevels, high, levels, runsOf, transitionsOf}
 use Rattle.dshot_reply.specs.Steps.{sameFor}
 

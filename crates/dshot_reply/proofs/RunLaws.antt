@@ -9,7 +9,8 @@ use native.Mathlib.Omega.{arith}
 use borrow.Author.Tests.{lt-ltb, le-ltb}
 use lib.Dec.{ltb}
 use lib.ListN.{length, drop}
-use Rattle.dshot_reply_spec.specs.Answer.{Answer, given, noReply, overlong, pick, refused}
+use Rattle.dshot_reply_spec.specs.Answer.{Answer, given, pick, refused}
+use Rattle.dshot_reply_spec.specs.Refusals.{noReply, overlong}
 use Rattle.dshot_reply_spec.specs.Runs.{assemble, finished, levels, runBits, runsOf, runsWord, sum}
 use Rattle.dshot_reply.proofs.Levels.{levels-drop, levels-length}
 use Rattle.dshot_reply.specs.Steps.{closed, sameFor}

@@ -13,7 +13,8 @@ use Rattle.dshot_reply.specs.declared.simulate.Simulated.{Simulated}
 use Rattle.dshot_reply.specs.declared.simulate.Simulated.the-variants.{Written}
 use Rattle.dshot_reply_spec.proofs.Simulated.{simulated-written}
 use Rattle.dshot_reply_spec.proofs.SimulatedRenders.{length-bits}
-use Rattle.dshot_reply_spec.specs.Answer.{filled, given, noMask, pick, refusalNumber, refused, wrongLength}
+use Rattle.dshot_reply_spec.specs.Answer.{filled, given, pick, refusalNumber, refused}
+use Rattle.dshot_reply_spec.specs.Refusals.{noMask, wrongLength}
 use Rattle.dshot_reply_spec.specs.Gcr.{replyWord}
 use Rattle.dshot_reply_spec.specs.Move.{bit}
 use Rattle.dshot_reply_spec.specs.Simulate.{bitLevels, levelSample, nextLevel, simulated, wordLevels, wordSamples}

@@ -1,7 +1,8 @@
 -- The answers of the source's enums, and of those added, in document 01's numbers and values.
 -- Assumes nothing.
 use Prim.Native.Nat.{ℕ}
-use Rattle.dshot_reply_spec.specs.Answer.{Answer, given, refused, noReply, overlong, invalidSymbol, wrongChecksum, zeroPeriod, noMask, wrongLength, periodOutOfRange}
+use Rattle.dshot_reply_spec.specs.Answer.{Answer, given, refused}
+use Rattle.dshot_reply_spec.specs.Refusals.{noReply, overlong, invalidSymbol, wrongChecksum, zeroPeriod, noMask, wrongLength, periodOutOfRange}
 use Rattle.dshot_reply_spec.specs.Value.{Reading, erpm, temp, volt, amp, debug, state, edt}
 use Rattle.dshot_reply.specs.declared.DshotReplyError.{DshotReplyError}
 use Rattle.dshot_reply.specs.declared.DshotReplyError.the-variants.{NoReply, Overlong, InvalidSymbol, Checksum, ZeroPeriod}

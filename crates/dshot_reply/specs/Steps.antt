@@ -6,8 +6,10 @@ use mathlib.Core.Bool.{Bool, Bool·beq}
 use mathlib.Core.List.{List, [], _∷_}
 use lib.Dec.{eqb, ltb}
 use lib.ListN.{getD}
-use Rattle.dshot_reply_spec.specs.Answer.{Answer, given, refused, pick, noReply, noMask, wrongLength}
+use Rattle.dshot_reply_spec.specs.Answer.{Answer, given, refused, if_then_else_}
+use Rattle.dshot_reply_spec.specs.Refusals.{noReply, noMask, wrongLength}
 use Rattle.dshot_reply_spec.specs.Gcr.{symbolOf, nibbleOf}
+use Rattle.dshot_reply_spec.specs.Runs.{REPLY-BITS, MIN-EDGE-BITS, MAX-REPLY-SAMPLES}
 
 -- a table has the symbol of each nibble
 pub record Encodes (table : List ℕ) : Type 0 where
@@ -20,12 +22,18 @@ pub record Decodes (table : List ℕ) : Type 0 where
 -- how many levels are l before one is not
 abbrev pub sameFor : Bool → List Bool → ℕ
 sameFor l [] = 0
-sameFor l (b ∷ bs) = pick (Bool·beq b l) (suc (sameFor l bs)) 0
+sameFor l (b ∷ bs) = if Bool·beq b l then suc (sameFor l bs) else 0
 
 -- the answer at the end of reading, where the finished runs have come to the bits of w
 unfoldable pub closed : ℕ → ℕ → Answer ℕ
-closed bits w = pick (ltb bits 18) (refused noReply) (pick (ltb bits 21) (given (w * 2 ^ (21 - bits) + 2 ^ (21 - bits - 1))) (given w))
+closed bits w =
+    if ltb bits MIN-EDGE-BITS then refused noReply else
+    if ltb bits REPLY-BITS then given (w * 2 ^ (REPLY-BITS - bits) + 2 ^ (REPLY-BITS - bits - 1)) else
+    given w
 
 -- the number with which the simulated ESC, at s samples a bit, refuses a buffer of n samples, a lead and a mask, or 0
 unfoldable pub simulatedRefusal : ℕ → ℕ → ℕ → ℕ → ℕ
-simulatedRefusal s n lead mask = pick (ltb n (lead + 23 * s)) wrongLength (pick (eqb mask 0) noMask 0)
+simulatedRefusal s n lead mask =
+    if ltb n (lead + MAX-REPLY-SAMPLES s) then wrongLength else
+    if eqb mask 0 then noMask else
+    0

@@ -15,6 +15,11 @@
 //
 // The sampling layer follows Betaflight's `drivers/dshot_bitbang_decode.c`, and the value layer its `drivers/dshot.c`, at commit `41a5b43`.
 
+use crate::refusals::INVALID_SYMBOL;
+use crate::refusals::NO_REPLY;
+use crate::refusals::OVERLONG;
+use crate::refusals::WRONG_CHECKSUM;
+use crate::refusals::ZERO_PERIOD;
 ghost use mathlib.Core.Path.{_≡_};
 ghost use Prim.Native.Nat.{_+_, _*_, _-_, _^_, _≤_, _<_, min};
 ghost use mathlib.Core.Bool.{true};
@@ -26,8 +31,9 @@ ghost use Rattle.dshot_reply_spec.specs.Reading.{wordReply, sampledReply};
 ghost use Rattle.dshot_reply.specs.Answers.{transitionsAnswer, decodedAnswer, reading, replyAnswer, errorNumber};
 ghost use Rattle.dshot_reply.specs.Steps.{Encodes, Decodes, sameFor, closed};
 
-// Not in the source: a reply as two numbers, and the simulated ESC.
+// Not in the source: a reply as two numbers, the numbers of refusals, and the simulated ESC.
 pub mod kind;
+pub mod refusals;
 pub mod simulate;
 
 // Bits in a reply, the start edge included.
@@ -73,11 +79,11 @@ pub fn error_number(error: DshotReplyError) -> u32
     ensures { λ r. ⌜ r ≡ errorNumber error ⌝ }
 {
     match error {
-        DshotReplyError::NoReply => 7,
-        DshotReplyError::Overlong => 8,
-        DshotReplyError::InvalidSymbol => 9,
-        DshotReplyError::Checksum => 10,
-        DshotReplyError::ZeroPeriod => 11,
+        DshotReplyError::NoReply => NO_REPLY,
+        DshotReplyError::Overlong => OVERLONG,
+        DshotReplyError::InvalidSymbol => INVALID_SYMBOL,
+        DshotReplyError::Checksum => WRONG_CHECKSUM,
+        DshotReplyError::ZeroPeriod => ZERO_PERIOD,
     }
 }
 

@@ -3,6 +3,8 @@
 use crate::MAX_REPLY_SAMPLES;
 use crate::REPLY_BITS;
 use crate::REPLY_SAMPLES_PER_BIT;
+use crate::refusals::NO_MASK;
+use crate::refusals::WRONG_LENGTH;
 use crate::reply_transitions_for;
 ghost use mathlib.Core.Path.{_≡_};
 ghost use Prim.Native.Nat.{_+_, _≤_};
@@ -90,8 +92,8 @@ pub fn simulated_number(answer: Simulated) -> u32
 {
     match answer {
         Simulated::Written => 0,
-        Simulated::NoMask => 12,
-        Simulated::WrongLength => 13,
+        Simulated::NoMask => NO_MASK,
+        Simulated::WrongLength => WRONG_LENGTH,
     }
 }
 

@@ -9,7 +9,8 @@ use Rattle.dshot_reply_spec.proofs.Cases.{equal-or-not}
 use Rattle.dshot_reply_spec.proofs.Decode.{bad, nibble-lt, nibbles-xor, reply-nibble, reply-symbol, symbol-small, unequal, xorOf}
 use Rattle.dshot_reply_spec.proofs.GcrLaws.{nibble-small, symbol-back}
 use Rattle.dshot_reply_spec.proofs.XorLaws.{assoc, cancel-left, cancel-right, nibble-xor}
-use Rattle.dshot_reply_spec.specs.Answer.{Answer, invalidSymbol, refused, wrongChecksum}
+use Rattle.dshot_reply_spec.specs.Answer.{Answer, refused}
+use Rattle.dshot_reply_spec.specs.Refusals.{invalidSymbol, wrongChecksum}
 use Rattle.dshot_reply_spec.specs.Gcr.{decodeWord, fromNibbles, nibbleAt, nibbleOf, replyNibble, replyWord, symbolAt, symbolOf}
 use Rattle.dshot_reply_spec.specs.Render.{Damaged}
 

@@ -12,7 +12,8 @@ use lib.Dec.{eqb, lit<}
 use borrow.Author.Tests.{eq-eqb, ne-eqb}
 use Rattle.dshot_reply_spec.proofs.GcrLaws.{eight-bad, read-back, symbol-back, symbol-lt}
 use Rattle.dshot_reply_spec.proofs.XorLaws.{cancel-left, complement, nibble-xor}
-use Rattle.dshot_reply_spec.specs.Answer.{Answer, given, invalidSymbol, pick, refused, wrongChecksum}
+use Rattle.dshot_reply_spec.specs.Answer.{Answer, given, pick, refused}
+use Rattle.dshot_reply_spec.specs.Refusals.{invalidSymbol, wrongChecksum}
 use Rattle.dshot_reply_spec.specs.Gcr.{checksum, decodeWord, fromNibbles, nibbleAt, nibbleOf, replyNibble, replyWord, symbolAt, symbolOf, wordOf}
 use Rattle.dshot_reply_spec.specs.Move.{wordValue}
 

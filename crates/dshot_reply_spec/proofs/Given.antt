@@ -5,7 +5,7 @@ use mathlib.Core.Logic.{_⊎_, inl, inr}
 use mathlib.Core.Bool.{Bool, true, false}
 use Prim.Native.Nat.{ℕ}
 use Rattle.dshot_reply_spec.proofs.Choice.{not-both, not-first, not-second}
-use Rattle.dshot_reply_spec.specs.Answer.{Answer, given, pick, refused, then}
+use Rattle.dshot_reply_spec.specs.Answer.{Answer, given, pick, refused, andThen}
 
 -- a choice is its first answer or its second, and its test says which
 pub either-given : {A : Type 0} {x y z : A} (b : Bool) → pick b x y ≡ z → ((b ≡ true) × (x ≡ z)) ⊎ ((b ≡ false) × (y ≡ z))
@@ -21,7 +21,7 @@ pub first-given : {A : Type 0} {a : Answer A} {x : A} (n : ℕ) (b : Bool) → p
 first-given n b e = not-second b e (λ f. not-both f refl)
 
 -- where the next step gives something, it was given something
-pub then-given : {A B : Type 0} (a : Answer A) (next : A → Answer B) {y : B} → then a next ≡ given y
+pub then-given : {A B : Type 0} (a : Answer A) (next : A → Answer B) {y : B} → andThen a next ≡ given y
     → (x : A) × (a ≡ given x) × (next x ≡ given y)
 then-given (given x) next e = (x, refl, e)
 then-given (refused n) next e = absurd (not-both e refl)

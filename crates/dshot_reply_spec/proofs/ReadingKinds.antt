@@ -9,7 +9,8 @@ use native.Mathlib.Omega.{arith}
 use lib.Dec.{T, eqb, ltb, ltb→lt, lit<, lit≤}
 use borrow.Author.Tests.{eqb-false}
 use Rattle.dshot_reply_spec.proofs.Table.{at}
-use Rattle.dshot_reply_spec.specs.Answer.{Answer, given, refused, pick, zeroPeriod}
+use Rattle.dshot_reply_spec.specs.Answer.{Answer, given, refused, pick}
+use Rattle.dshot_reply_spec.specs.Refusals.{zeroPeriod}
 use Rattle.dshot_reply_spec.specs.Kind.{debugKind, kindNumber, readingNumber}
 use Rattle.dshot_reply_spec.specs.Value.{Reading, erpm, temp, volt, amp, debug, state, edt, readingOf, replyOf, speedOf, speedValue}
 

@@ -14,7 +14,8 @@ use lib.Pow.{pow-add}
 use lib.ListN.{length, take, drop, replicate, length-append, length-replicate}
 use lib.Seq.{drop-at}
 use Rattle.dshot_reply_spec.proofs.Cases.{lt-or-ge}
-use Rattle.dshot_reply_spec.specs.Answer.{Answer, given, noReply, pick, refused}
+use Rattle.dshot_reply_spec.specs.Answer.{Answer, given, pick, refused}
+use Rattle.dshot_reply_spec.specs.Refusals.{noReply}
 use Rattle.dshot_reply_spec.specs.Render.{Lasts, RenderedRuns, Renders, closed-low, open-end, openBits, run}
 use Rattle.dshot_reply_spec.specs.Runs.{assemble, finished, firstLow, fromLevels, runBits, runsOf, runsWord, sum}
 

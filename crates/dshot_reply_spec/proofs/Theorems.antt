@@ -14,7 +14,8 @@ use Rattle.dshot_reply_spec.proofs.Damage.{Undecoded, damaged}
 use Rattle.dshot_reply_spec.proofs.Decode.{decode-reply, ends-in-zeros}
 use Rattle.dshot_reply_spec.proofs.Moves.{moved-decode}
 use Rattle.dshot_reply_spec.proofs.Rendered.{rendered-read}
-use Rattle.dshot_reply_spec.specs.Answer.{Answer, Rejected, given, invalidSymbol, noReply, pick, refused, then, zeroPeriod}
+use Rattle.dshot_reply_spec.specs.Answer.{Answer, Rejected, given, pick, refused, andThen}
+use Rattle.dshot_reply_spec.specs.Refusals.{invalidSymbol, noReply, zeroPeriod}
 use Rattle.dshot_reply_spec.specs.Claims.{MovedEdge}
 use Rattle.dshot_reply_spec.specs.Gcr.{decodeWord, replyWord}
 use Rattle.dshot_reply_spec.specs.Move.{Formed, Moved, Turned, wordValue}
@@ -69,8 +70,8 @@ module _ (s : ℕ) (pos : 0 < s) (samples : List ℕ) (mask : ℕ) (extended : B
   unfolding sampledReply transitionsOf
   rendered-reply w r =
       ⊎-elim
-      (λ e. inl (ap (λ (t : Answer ℕ). then t (λ x. wordReply x extended)) e))
-      (λ q. inr (ap (λ (t : Answer ℕ). then t (λ x. wordReply x extended)) (q .0), ends-in-zeros w (q .1)))
+      (λ e. inl (ap (λ (t : Answer ℕ). andThen t (λ x. wordReply x extended)) e))
+      (λ q. inr (ap (λ (t : Answer ℕ). andThen t (λ x. wordReply x extended)) (q .0), ends-in-zeros w (q .1)))
       (rendered-read s pos (levels mask samples) w r)
 
   value-again : (v : ℕ) → replyOf (v % 4096) extended ≡ replyOf v extended
@@ -82,7 +83,7 @@ module _ (s : ℕ) (pos : 0 < s) (samples : List ℕ) (mask : ℕ) (extended : B
   unfolding wordReply
   reply-reads v r =
       ⊎-elim
-      (λ e. e ∙ ap (λ (d : Answer ℕ). then d (λ x. replyOf x extended)) (decode-reply v) ∙ value-again v)
+      (λ e. e ∙ ap (λ (d : Answer ℕ). andThen d (λ x. replyOf x extended)) (decode-reply v) ∙ value-again v)
       (λ q. absurd (not-both (decode-reply v) (q .1)))
       (rendered-reply (replyWord v) r)
 
@@ -91,8 +92,8 @@ module _ (s : ℕ) (pos : 0 < s) (samples : List ℕ) (mask : ℕ) (extended : B
   unfolding wordReply
   undecoded-refused w r u =
       ⊎-elim
-      (λ e. ⊎-elim (λ d. with-number 9 (e ∙ ap (λ (x : Answer ℕ). then x (λ y. replyOf y extended)) d) (lit≤ tt) (lit≤ tt))
-      (λ d. with-number 10 (e ∙ ap (λ (x : Answer ℕ). then x (λ y. replyOf y extended)) d) (lit≤ tt) (lit≤ tt)) u)
+      (λ e. ⊎-elim (λ d. with-number 9 (e ∙ ap (λ (x : Answer ℕ). andThen x (λ y. replyOf y extended)) d) (lit≤ tt) (lit≤ tt))
+      (λ d. with-number 10 (e ∙ ap (λ (x : Answer ℕ). andThen x (λ y. replyOf y extended)) d) (lit≤ tt) (lit≤ tt)) u)
       (λ q. with-number 7 (q .0) (lit≤ tt) (lit≤ tt))
       (rendered-reply w r)
     where

@@ -9,7 +9,8 @@ use lib.Dec.{eqb}
 use lib.Pow.{pow-pos}
 use borrow.Author.Tests.{eqb-false, eqb-true, ne-eqb}
 use Rattle.dshot_reply_spec.proofs.Choice.{not-both, not-first, not-second}
-use Rattle.dshot_reply_spec.specs.Answer.{refused, zeroPeriod}
+use Rattle.dshot_reply_spec.specs.Answer.{refused}
+use Rattle.dshot_reply_spec.specs.Refusals.{zeroPeriod}
 use Rattle.dshot_reply_spec.specs.Value.{replyOf, speedOf, speedValue}
 
 -- ---- the speeds that are refused

@@ -10,14 +10,19 @@ pub data Answer (A : Type 0) : Type 0 where
   refused : ℕ → Answer A
 
 -- what the next step makes of an answer: a refusal stays as it is, as with Rust's `?`
-abbrev pub then : {A B : Type 0} → Answer A → (A → Answer B) → Answer B
-then (given a) next = next a
-then (refused n) next = refused n
+abbrev pub andThen : {A B : Type 0} → Answer A → (A → Answer B) → Answer B
+andThen (given a) next = next a
+andThen (refused n) next = refused n
 
 -- the first where a test holds, else the second
 abbrev pub pick : {A : Type 0} → Bool → A → A → A
 pick true a b = a
 pick false a b = b
+
+-- the same, as Rust writes it
+infix 1 if_then_else_
+abbrev pub if_then_else_ : {A : Type 0} → Bool → A → A → A
+if_then_else_ b x y = pick b x y
 
 -- whether something was given, as Rust's `is_ok`
 abbrev pub isGiven : {A : Type 0} → Answer A → Bool
@@ -33,56 +38,6 @@ refusalNumber (refused n) = n
 abbrev pub filled : {A : Type 0} → (A → List ℕ) → List ℕ → Answer A → List ℕ
 filled slots out (given a) = slots a
 filled slots out (refused n) = out
-
--- ---- document 01's numbers of the refusals
-
-abbrev pub zeroTimerClock : ℕ
-zeroTimerClock = 1
-
-abbrev pub zeroBitrate : ℕ
-zeroBitrate = 2
-
-abbrev pub periodTooShort : ℕ
-periodTooShort = 3
-
-abbrev pub periodTooLong : ℕ
-periodTooLong = 4
-
-abbrev pub valueOutOfRange : ℕ
-valueOutOfRange = 5
-
-abbrev pub noReply : ℕ
-noReply = 7
-
-abbrev pub overlong : ℕ
-overlong = 8
-
-abbrev pub invalidSymbol : ℕ
-invalidSymbol = 9
-
-abbrev pub wrongChecksum : ℕ
-wrongChecksum = 10
-
-abbrev pub zeroPeriod : ℕ
-zeroPeriod = 11
-
-abbrev pub noMask : ℕ
-noMask = 12
-
-abbrev pub wrongLength : ℕ
-wrongLength = 13
-
-abbrev pub wrongDuty : ℕ
-wrongDuty = 14
-
-abbrev pub wrongPacketChecksum : ℕ
-wrongPacketChecksum = 15
-
-abbrev pub periodOutOfRange : ℕ
-periodOutOfRange = 16
-
-abbrev pub notACapture : ℕ
-notACapture = 17
 
 -- refused, as a damaged capture is: with one of 7 to 10
 pub record Rejected {A : Type 0} (a : Answer A) : Type 0 where

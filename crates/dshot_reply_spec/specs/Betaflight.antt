@@ -7,7 +7,8 @@ use mathlib.Core.List.{List, [], _∷_, _++_}
 use lib.Dec.{eqb}
 use lib.Bits.{bitXor}
 use lib.ListN.{getD, replicate}
-use Rattle.dshot_reply_spec.specs.Answer.{Answer, given, refused, pick, zeroPeriod}
+use Rattle.dshot_reply_spec.specs.Answer.{Answer, given, refused, if_then_else_}
+use Rattle.dshot_reply_spec.specs.Refusals.{zeroPeriod}
 use Rattle.dshot_reply_spec.specs.Value.{Reading, erpm}
 
 -- the checksum is inverted: ~(value ^ (value >> 4) ^ (value >> 8)) & 0x0F
@@ -37,7 +38,7 @@ numberFrom w (b ∷ bs) = numberFrom (2 * w + b) bs
 -- the level of the line in each bit: a 1 changes it, a 0 keeps it
 abbrev pub lineFrom : Bool → List ℕ → List Bool
 lineFrom l [] = []
-lineFrom l (b ∷ bs) = pick (eqb b 1) (not l) l ∷ lineFrom (pick (eqb b 1) (not l) l) bs
+lineFrom l (b ∷ bs) = (if eqb b 1 then not l else l) ∷ lineFrom (if eqb b 1 then not l else l) bs
 
 -- the line idles high and goes low for the start bit; the twenty bits follow
 abbrev pub replyLine : ℕ → List Bool
@@ -61,4 +62,7 @@ abbrev pub nearest : ℕ → ℕ → ℕ
 nearest a b = (2 * a + b) / (2 * b)
 
 unfoldable pub speed : ℕ → Answer Reading
-speed v = pick (eqb v 0xfff) (given (erpm 0)) (pick (eqb (period v) 0) (refused zeroPeriod) (given (erpm (nearest 600000 (period v)))))
+speed v =
+    if eqb v 0xfff then given (erpm 0) else
+    if eqb (period v) 0 then refused zeroPeriod else
+    given (erpm (nearest 600000 (period v)))

@@ -4,7 +4,7 @@
 use Prim.Native.Nat.{ℕ, _/_, _%_}
 use mathlib.Core.Bool.{Bool, true, false}
 use lib.Dec.{eqb}
-use Rattle.dshot_reply_spec.specs.Answer.{Answer, given, pick}
+use Rattle.dshot_reply_spec.specs.Answer.{Answer, given, if_then_else_}
 use Rattle.dshot_reply_spec.specs.Value.{Reading, temp, volt, amp, debug, state, edt}
 use Rattle.dshot_reply_spec.specs.Betaflight.{speed}
 
@@ -14,21 +14,21 @@ abbrev pub frameType : ℕ → ℕ
 frameType v = v / 256
 
 abbrev pub isSpeed : ℕ → Bool
-isSpeed t = pick (eqb (t % 2) 1) true (eqb t 0)
+isSpeed t = if eqb (t % 2) 1 then true else eqb t 0
 
 -- the typed frames: degrees Celsius, quarter volts, amperes, three debug values, and the state with its events. Type 0xC is the third debug
 -- value, as in the versions before it became the stress level
 unfoldable pub typed : ℕ → ℕ → Reading
 typed t n =
-    pick (eqb t 0x2) (temp n)
-    (pick (eqb t 0x4) (volt n)
-    (pick (eqb t 0x6) (amp n)
-    (pick (eqb t 0x8) (debug 1 n)
-    (pick (eqb t 0xa) (debug 2 n)
-    (pick (eqb t 0xc) (debug 3 n)
-    (state n))))))
+    if eqb t 0x2 then temp n else
+    if eqb t 0x4 then volt n else
+    if eqb t 0x6 then amp n else
+    if eqb t 0x8 then debug 1 n else
+    if eqb t 0xa then debug 2 n else
+    if eqb t 0xc then debug 3 n else
+    state n
 
 -- with EDT on a typed frame is a reading; with EDT off all but the acknowledgement of its enabling, 0xE00, are speeds
 unfoldable pub edtReply : ℕ → Bool → Answer Reading
-edtReply v true = pick (isSpeed (frameType v)) (speed v) (given (typed (frameType v) (v % 256)))
-edtReply v false = pick (eqb v 0xe00) (given edt) (speed v)
+edtReply v true = if isSpeed (frameType v) then speed v else given (typed (frameType v) (v % 256))
+edtReply v false = if eqb v 0xe00 then given edt else speed v

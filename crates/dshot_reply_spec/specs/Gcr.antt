@@ -8,7 +8,8 @@ use mathlib.Core.List.{List, [], _∷_}
 use lib.Dec.{eqb}
 use lib.Bits.{bitXor}
 use lib.ListN.{getD}
-use Rattle.dshot_reply_spec.specs.Answer.{Answer, given, refused, pick, invalidSymbol, wrongChecksum}
+use Rattle.dshot_reply_spec.specs.Answer.{Answer, given, refused, if_then_else_}
+use Rattle.dshot_reply_spec.specs.Refusals.{invalidSymbol, wrongChecksum}
 
 -- the symbol of each nibble
 abbrev pub symbols : List ℕ
@@ -21,7 +22,7 @@ symbolOf n = getD symbols n 0
 -- the place of x in a list whose places are counted from i, or 255
 abbrev pub placeOf : ℕ → ℕ → List ℕ → ℕ
 placeOf x i [] = 255
-placeOf x i (y ∷ ys) = pick (eqb x y) i (placeOf x (suc i) ys)
+placeOf x i (y ∷ ys) = if eqb x y then i else placeOf x (suc i) ys
 
 -- the nibble whose symbol s is, or 255 where s is no symbol
 unfoldable pub nibbleOf : ℕ → ℕ
@@ -61,11 +62,12 @@ nibbleAt w p = nibbleOf (symbolAt w p)
 -- what four nibbles, the highest first, or 255 for a bad symbol, give: a bad symbol is found before a wrong checksum
 unfoldable pub fromNibbles : ℕ → ℕ → ℕ → ℕ → Answer ℕ
 fromNibbles a b c d =
-    pick (eqb a 255) (refused invalidSymbol)
-    (pick (eqb b 255) (refused invalidSymbol)
-    (pick (eqb c 255) (refused invalidSymbol)
-    (pick (eqb d 255) (refused invalidSymbol)
-    (pick (eqb (bitXor (bitXor (bitXor a b) c) d) 15) (given (a * 256 + b * 16 + c)) (refused wrongChecksum)))))
+    if eqb a 255 then refused invalidSymbol else
+    if eqb b 255 then refused invalidSymbol else
+    if eqb c 255 then refused invalidSymbol else
+    if eqb d 255 then refused invalidSymbol else
+    if eqb (bitXor (bitXor (bitXor a b) c) d) 15 then given (a * 256 + b * 16 + c) else
+    refused wrongChecksum
 
 -- the value of a word; only its lowest twenty bits count
 unfoldable pub decodeWord : ℕ → Answer ℕ

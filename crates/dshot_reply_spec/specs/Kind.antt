@@ -2,12 +2,16 @@
 -- Assumes nothing.
 use Prim.Native.Nat.{ℕ}
 use lib.Dec.{eqb}
-use Rattle.dshot_reply_spec.specs.Answer.{pick}
+use Rattle.dshot_reply_spec.specs.Answer.{if_then_else_}
 use Rattle.dshot_reply_spec.specs.Value.{Reading, erpm, temp, volt, amp, debug, state, edt}
 
 -- the kinds of the debug channels 1 to 3; another channel, which no reading of the library has, gets 9, which is no kind
 unfoldable pub debugKind : ℕ → ℕ
-debugKind channel = pick (eqb channel 1) 4 (pick (eqb channel 2) 5 (pick (eqb channel 3) 6 9))
+debugKind channel =
+    if eqb channel 1 then 4 else
+    if eqb channel 2 then 5 else
+    if eqb channel 3 then 6 else
+    9
 
 -- the kinds in the order of the line: erpm, temp, volt, amp, debug1 to debug3, state, edt
 abbrev pub kindNumber : Reading → ℕ

@@ -5,15 +5,15 @@
 use Prim.Native.Nat.{ℕ}
 use mathlib.Core.Bool.{Bool}
 use mathlib.Core.List.{List}
-use Rattle.dshot_reply_spec.specs.Answer.{Answer, then}
+use Rattle.dshot_reply_spec.specs.Answer.{Answer, andThen}
 use Rattle.dshot_reply_spec.specs.Gcr.{decodeWord}
 use Rattle.dshot_reply_spec.specs.Runs.{transitionsOf}
 use Rattle.dshot_reply_spec.specs.Value.{Reading, replyOf}
 
 -- what a word reads as
 unfoldable pub wordReply : ℕ → Bool → Answer Reading
-wordReply w extended = then (decodeWord w) (λ v. replyOf v extended)
+wordReply w extended = andThen (decodeWord w) (λ v. replyOf v extended)
 
 -- what samples, s a bit, read as at the pins of a mask
 unfoldable pub sampledReply : ℕ → List ℕ → ℕ → Bool → Answer Reading
-sampledReply s samples mask extended = then (transitionsOf s samples mask) (λ w. wordReply w extended)
+sampledReply s samples mask extended = andThen (transitionsOf s samples mask) (λ w. wordReply w extended)

@@ -6,7 +6,7 @@ use mathlib.Core.Bool.{Bool, true, false, not}
 use mathlib.Core.List.{List, [], _∷_, _++_}
 use lib.ListN.{length, take, replicate}
 use Rattle.dshot_reply_spec.specs.Gcr.{symbolAt}
-use Rattle.dshot_reply_spec.specs.Runs.{sum, runsWord}
+use Rattle.dshot_reply_spec.specs.Runs.{REPLY-BITS, MIN-REPLY-SAMPLES, MAX-REPLY-SAMPLES, sum, runsWord}
 
 -- n samples last k bits: at s samples a bit they are at most (s - 1) / 2 off, so that they are 3k - 1 to 3k + 1 at 3
 abbrev pub Lasts : ℕ → ℕ → ℕ → Type 0
@@ -33,10 +33,10 @@ pub record Renders (s : ℕ) (ls : List Bool) (w : ℕ) : Type 0 where
   pub after : List Bool
   pub runs : List ℕ
   pub split : ls ≡ replicate lead true ++ after
-  pub room : 19 * s ≤ length after
-  pub bits : sum runs ≡ 21
+  pub room : MIN-REPLY-SAMPLES s ≤ length after
+  pub bits : sum runs ≡ REPLY-BITS
   pub word : runsWord 0 runs ≡ w
-  pub rendered : RenderedRuns s false runs (take (23 * s) after)
+  pub rendered : RenderedRuns s false runs (take (MAX-REPLY-SAMPLES s) after)
 
 -- damage changes the symbol at place p, and nothing else
 pub record Damaged (w w′ p : ℕ) : Type 0 where

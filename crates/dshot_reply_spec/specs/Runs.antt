@@ -8,7 +8,28 @@ use mathlib.Core.List.{List, [], _∷_, _++_, map}
 use lib.Dec.{eqb, leb, ltb}
 use lib.Bits.{bitAnd}
 use lib.ListN.{length, take, drop}
-use Rattle.dshot_reply_spec.specs.Answer.{Answer, given, refused, pick, noReply, overlong}
+use Rattle.dshot_reply_spec.specs.Answer.{Answer, given, refused, if_then_else_}
+use Rattle.dshot_reply_spec.specs.Refusals.{noReply, overlong}
+
+-- ---- the source's constants; document 01 names the same numbers
+
+-- bits in a reply, the start edge included
+abbrev pub REPLY-BITS : ℕ
+REPLY-BITS = 21
+
+-- how many samples there must be from the start on: two bits short of a whole reply (57 at 3 a bit)
+abbrev pub MIN-REPLY-SAMPLES : ℕ → ℕ
+MIN-REPLY-SAMPLES s = 19 * s
+
+-- how many samples are read from the start on: two bits past a reply's end (69 at 3 a bit)
+abbrev pub MAX-REPLY-SAMPLES : ℕ → ℕ
+MAX-REPLY-SAMPLES s = 23 * s
+
+-- with fewer bits than this between edges there is no reply
+abbrev pub MIN-EDGE-BITS : ℕ
+MIN-EDGE-BITS = 18
+
+-- ---- runs
 
 -- a sample is high if any pin of the mask is set in it
 abbrev pub high : ℕ → ℕ → Bool
@@ -47,19 +68,25 @@ runsWord w (k ∷ ks) = runsWord (w * 2 ^ k + 2 ^ (k - 1)) ks
 
 -- the runs, with the missing bits as one last run
 abbrev pub complete : List ℕ → List ℕ
-complete ks = pick (ltb (sum ks) 21) (ks ++ ((21 - sum ks) ∷ [])) ks
+complete ks = if ltb (sum ks) REPLY-BITS then ks ++ ((REPLY-BITS - sum ks) ∷ []) else ks
 
 -- the transition bits of a reply whose finished runs have ks bits
 unfoldable pub assemble : List ℕ → Answer ℕ
-assemble ks = pick (ltb 21 (sum ks)) (refused overlong) (pick (ltb (sum ks) 18) (refused noReply) (given (runsWord 0 (complete ks))))
+assemble ks =
+    if ltb REPLY-BITS (sum ks) then refused overlong else
+    if ltb (sum ks) MIN-EDGE-BITS then refused noReply else
+    given (runsWord 0 (complete ks))
 
 -- the bits of each finished run of what is read, which starts low
 abbrev pub runsOf : ℕ → List Bool → List ℕ
 runsOf s ls = map (runBits s) (finished false 0 ls)
 
--- the start is the first low sample, with 19 bits of samples from there on (57 at 3 a bit); at most 23 bits of samples are read (69 at 3)
+-- the start is the first low sample, where there are samples enough from there on
 unfoldable pub fromLevels : ℕ → List Bool → Answer ℕ
-fromLevels s ls = pick (leb (19 * s) (length ls - firstLow ls)) (assemble (runsOf s (take (23 * s) (drop (firstLow ls) ls)))) (refused noReply)
+fromLevels s ls =
+    if leb (MIN-REPLY-SAMPLES s) (length ls - firstLow ls)
+    then assemble (runsOf s (take (MAX-REPLY-SAMPLES s) (drop (firstLow ls) ls)))
+    else refused noReply
 
 -- the transition bits that samples hold at the pins of a mask
 unfoldable pub transitionsOf : ℕ → List ℕ → ℕ → Answer ℕ

@@ -5,13 +5,15 @@ use mathlib.Core.Bool.{Bool, true, not}
 use mathlib.Core.List.{List, [], _++_, map}
 use lib.Dec.{eqb, ltb}
 use lib.ListN.{length, replicate}
-use Rattle.dshot_reply_spec.specs.Answer.{Answer, given, refused, pick, noMask, wrongLength}
+use Rattle.dshot_reply_spec.specs.Answer.{Answer, given, refused, if_then_else_}
+use Rattle.dshot_reply_spec.specs.Refusals.{noMask, wrongLength}
 use Rattle.dshot_reply_spec.specs.Gcr.{replyWord}
 use Rattle.dshot_reply_spec.specs.Move.{bit}
+use Rattle.dshot_reply_spec.specs.Runs.{REPLY-BITS, MAX-REPLY-SAMPLES}
 
 -- the level of a bit, after the level l: a 1 is an edge
 abbrev pub nextLevel : Bool → ℕ → Bool
-nextLevel l b = pick (eqb b 1) (not l) l
+nextLevel l b = if eqb b 1 then not l else l
 
 -- the levels of the lowest i bits of a word, the highest of them first, after the level l
 abbrev pub bitLevels : ℕ → Bool → ℕ → ℕ → List Bool
@@ -20,19 +22,19 @@ bitLevels s l (suc i) w = replicate s (nextLevel l (bit w i)) ++ bitLevels s (ne
 
 -- a lead of high samples, the word, and high for another m samples
 unfoldable pub wordLevels : ℕ → ℕ → ℕ → ℕ → List Bool
-wordLevels s w lead m = replicate lead true ++ (bitLevels s true 21 w ++ replicate m true)
+wordLevels s w lead m = replicate lead true ++ (bitLevels s true REPLY-BITS w ++ replicate m true)
 
 -- a high sample has all pins of the mask, a low one none
 abbrev pub levelSample : ℕ → Bool → ℕ
-levelSample mask l = pick l mask 0
+levelSample mask l = if l then mask else 0
 
 -- the samples of a word in a buffer of n
 unfoldable pub wordSamples : ℕ → ℕ → ℕ → ℕ → ℕ → List ℕ
-wordSamples s w lead mask n = map (levelSample mask) (wordLevels s w lead (n - lead - 21 * s))
+wordSamples s w lead mask n = map (levelSample mask) (wordLevels s w lead (n - lead - REPLY-BITS * s))
 
--- the whole buffer `out` with the capture of a value in it, if it holds the lead and 23 bits of samples, and then if the mask has a pin
+-- the whole buffer `out` with the capture of a value in it, if it holds the lead and the samples that are read, and then if the mask has a pin
 unfoldable pub simulated : ℕ → List ℕ → ℕ → ℕ → ℕ → Answer (List ℕ)
 simulated s out v lead mask =
-    pick (ltb (length out) (lead + 23 * s)) (refused wrongLength)
-    (pick (eqb mask 0) (refused noMask)
-    (given (wordSamples s (replyWord v) lead mask (length out))))
+    if ltb (length out) (lead + MAX-REPLY-SAMPLES s) then refused wrongLength else
+    if eqb mask 0 then refused noMask else
+    given (wordSamples s (replyWord v) lead mask (length out))

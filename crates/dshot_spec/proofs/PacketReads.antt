@@ -11,7 +11,8 @@ use lib.Dec.{eqb, lit<}
 use borrow.Author.Tests.{eq-eqb, eqb-true, ne-eqb}
 use Rattle.dshot_reply_spec.proofs.Table.{at}
 use Rattle.dshot_reply_spec.proofs.XorLaws.{nibble-xor}
-use Rattle.dshot_reply_spec.specs.Answer.{given, wrongPacketChecksum}
+use Rattle.dshot_reply_spec.specs.Answer.{given}
+use Rattle.dshot_reply_spec.specs.Refusals.{wrongPacketChecksum}
 use Rattle.dshot_reply_spec.proofs.Given.{either-given, first-given}
 use Rattle.dshot_spec.specs.Packet.{Frame, Kind, plain, inverted, checksum, flag, frameOf, packetWord, payload, readPacket, sent}
 

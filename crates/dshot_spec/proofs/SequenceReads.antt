@@ -14,7 +14,8 @@ use lib.Pow.{shr-shr}
 use lib.Seq.{length-take-le, split-at}
 use borrow.Author.Tests.{eq-eqb, eqb-true, ne-eqb}
 use Rattle.dshot_reply_spec.proofs.SimulatedRenders.{low-bits}
-use Rattle.dshot_reply_spec.specs.Answer.{Answer, given, pick, refused, then, wrongDuty, wrongLength}
+use Rattle.dshot_reply_spec.specs.Answer.{Answer, given, pick, refused, andThen}
+use Rattle.dshot_reply_spec.specs.Refusals.{wrongDuty, wrongLength}
 use Rattle.dshot_reply_spec.specs.Move.{bit}
 use Rattle.dshot_reply_spec.proofs.Given.{either-given, first-given, second-given, then-given}
 use Rattle.dshot_spec.proofs.PacketReads.{packet-read, packet-reads, packet-small}
@@ -91,8 +92,8 @@ unfolding readSequence sequenceOf tabulate duties
 sequence-reads t k v b h ne =
     let w = packetWord k v b in
     let whole : 0 * 2 ^ 16 + w % 2 ^ 16 ≡ w = omega (arith, packet-small k v b) in
-    ap (λ (c : Bool). pick c (refused wrongDuty) (then (wordFrom t 0 (duties t 16 w)) readPacket)) (ne-eqb (t .zeroHigh) (t .oneHigh) ne)
-    ∙ ap (λ (a : Answer ℕ). then a readPacket) (duties-read t 0 16 w ne ∙ ap given whole)
+    ap (λ (c : Bool). pick c (refused wrongDuty) (andThen (wordFrom t 0 (duties t 16 w)) readPacket)) (ne-eqb (t .zeroHigh) (t .oneHigh) ne)
+    ∙ ap (λ (a : Answer ℕ). andThen a readPacket) (duties-read t 0 16 w ne ∙ ap given whole)
     ∙ packet-reads k v b h
 
 -- equal high times are refused, whatever the duties

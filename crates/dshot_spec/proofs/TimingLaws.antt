@@ -7,7 +7,8 @@ use native.Mathlib.Omega.{arith}
 use lib.Dec.{eqb, ltb, lit<}
 use mathlib.Core.Bool.{Bool, true, false}
 use borrow.Author.Tests.{eqb-false, ltb-false}
-use Rattle.dshot_reply_spec.specs.Answer.{given, periodTooLong, periodTooShort, zeroBitrate, zeroTimerClock}
+use Rattle.dshot_reply_spec.specs.Answer.{given}
+use Rattle.dshot_reply_spec.specs.Refusals.{periodTooLong, periodTooShort, zeroBitrate, zeroTimerClock}
 use Rattle.dshot_reply_spec.specs.Nearest.{nearest}
 use Rattle.dshot_reply_spec.proofs.Documents.{rounded}
 use Rattle.dshot_reply_spec.proofs.Given.{second-given}

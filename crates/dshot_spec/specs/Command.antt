@@ -7,7 +7,7 @@ use mathlib.Core.Bool.{Bool}
 use mathlib.Core.List.{List, [], _∷_, _++_}
 use lib.Dec.{eqb, ltb}
 use lib.ListN.{length, getD, replicate}
-use Rattle.dshot_reply_spec.specs.Answer.{pick}
+use Rattle.dshot_reply_spec.specs.Answer.{if_then_else_}
 
 -- which command is next, and how often it is still to be sent
 pub record CommandRun : Type 0 where
@@ -17,7 +17,7 @@ pub record CommandRun : Type 0 where
 
 -- a direction command, 20 or 21 for reversed, and then the command to save, 12, ten times each
 unfoldable pub spinDirection : Bool → CommandRun
-spinDirection reversed = record { commands = pick reversed 21 20 ∷ 12 ∷ []; index = 0; repeatsLeft = 10 }
+spinDirection reversed = record { commands = (if reversed then 21 else 20) ∷ 12 ∷ []; index = 0; repeatsLeft = 10 }
 
 -- the command for the next frame, if there is one
 pub data Command : Type 0 where
@@ -32,16 +32,16 @@ pub record Next : Type 0 where
 -- the run after a frame, with `left` frames of its command to go; at 0 the next command is due
 abbrev pub counted : ℕ → CommandRun → ℕ → CommandRun
 counted repeats run left =
-    pick (eqb left 0)
-    (record { commands = run .commands; index = run .index + 1; repeatsLeft = repeats })
-    (record { commands = run .commands; index = run .index; repeatsLeft = left })
+    if eqb left 0
+    then record { commands = run .commands; index = run .index + 1; repeatsLeft = repeats }
+    else record { commands = run .commands; index = run .index; repeatsLeft = left }
 
 -- one step of a run; the count is a byte and wraps, so that a count of 0, which no run of `spinDirection` reaches, is taken for 256
 unfoldable pub nextValue : ℕ → CommandRun → Next
 nextValue repeats run =
-    pick (ltb (run .index) (length (run .commands)))
-    (record { command = send (getD (run .commands) (run .index) 0); run = counted repeats run ((run .repeatsLeft + 255) % 256) })
-    (record { command = none; run = run })
+    if ltb (run .index) (length (run .commands))
+    then record { command = send (getD (run .commands) (run .index) 0); run = counted repeats run ((run .repeatsLeft + 255) % 256) }
+    else record { command = none; run = run }
 
 -- the next n commands of a run
 abbrev pub sentBy : ℕ → ℕ → CommandRun → List Command

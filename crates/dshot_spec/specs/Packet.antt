@@ -8,7 +8,8 @@ use mathlib.Core.List.{List}
 use lib.Dec.{eqb, ltb}
 use lib.Bits.{bitXor}
 use lib.ListN.{getD}
-use Rattle.dshot_reply_spec.specs.Answer.{Answer, given, refused, pick, valueOutOfRange, wrongPacketChecksum}
+use Rattle.dshot_reply_spec.specs.Answer.{Answer, given, refused, if_then_else_}
+use Rattle.dshot_reply_spec.specs.Refusals.{valueOutOfRange, wrongPacketChecksum}
 use Rattle.dshot_spec.specs.Tabulate.{tabulate}
 
 -- how the checksum is sent: as it is, or inverted, which asks a bidirectional ESC to answer
@@ -51,7 +52,7 @@ packetWord kind value telemetry = 16 * payload value telemetry + sent kind (chec
 
 -- the plain packet of a value that fits in eleven bits
 unfoldable pub tryPacket : ℕ → Bool → Answer ℕ
-tryPacket value telemetry = pick (ltb 2047 value) (refused valueOutOfRange) (given (packetWord plain value telemetry))
+tryPacket value telemetry = if ltb 2047 value then refused valueOutOfRange else given (packetWord plain value telemetry)
 
 -- ---- the packets of n motors
 
@@ -78,6 +79,6 @@ frameOf kind p = record { value = p / 2; telemetry = eqb (p % 2) 1; kind = kind 
 -- the value, the telemetry bit and the kind of checksum of a packet word
 unfoldable pub readPacket : ℕ → Answer Frame
 readPacket w =
-    pick (eqb (w % 16) (checksum (w / 16))) (given (frameOf plain (w / 16)))
-    (pick (eqb (w % 16) (sent inverted (checksum (w / 16)))) (given (frameOf inverted (w / 16)))
-    (refused wrongPacketChecksum))
+    if eqb (w % 16) (checksum (w / 16)) then given (frameOf plain (w / 16)) else
+    if eqb (w % 16) (sent inverted (checksum (w / 16))) then given (frameOf inverted (w / 16)) else
+    refused wrongPacketChecksum

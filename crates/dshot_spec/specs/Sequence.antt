@@ -8,7 +8,8 @@ use mathlib.Core.Bool.{Bool}
 use mathlib.Core.List.{List, [], _∷_}
 use lib.Dec.{eqb, ltb}
 use lib.ListN.{length, getD, take}
-use Rattle.dshot_reply_spec.specs.Answer.{Answer, given, refused, then, pick, wrongLength, wrongDuty}
+use Rattle.dshot_reply_spec.specs.Answer.{Answer, given, refused, andThen, if_then_else_}
+use Rattle.dshot_reply_spec.specs.Refusals.{wrongLength, wrongDuty}
 use Rattle.dshot_reply_spec.specs.Move.{bit}
 use Rattle.dshot_spec.specs.Packet.{Frame, readPacket}
 use Rattle.dshot_spec.specs.Tabulate.{tabulate}
@@ -22,11 +23,11 @@ isSet w i = eqb (bit w i) 1
 
 -- slot i of a frame: the duty of bit 15 - i, then six zeros
 abbrev pub frameSlot : ℕ → ℕ → ℕ → ℕ
-frameSlot w max i = pick (ltb i 16) (pick (isSet w (15 - i)) (max * 3 / 4) (max * 3 / 8)) 0
+frameSlot w max i = if ltb i 16 then (if isSet w (15 - i) then max * 3 / 4 else max * 3 / 8) else 0
 
 -- what a buffer of 22 slots is filled with; another is refused
 unfoldable pub encodedPacket : List ℕ → ℕ → ℕ → Answer (List ℕ)
-encodedPacket out w max = pick (eqb (length out) 22) (given (tabulate 22 (frameSlot w max))) (refused wrongLength)
+encodedPacket out w max = if eqb (length out) 22 then given (tabulate 22 (frameSlot w max)) else refused wrongLength
 
 -- ---- a compare sequence: the first duty, and 16 slots
 
@@ -37,7 +38,7 @@ pub record Sequence : Type 0 where
 
 -- slot i of a sequence: the duty of bit 14 - i, and then a zero, which leaves the output low
 abbrev pub sequenceSlot : Timing → ℕ → ℕ → ℕ
-sequenceSlot t w i = pick (ltb i 15) (dutyForBit t (isSet w (14 - i))) 0
+sequenceSlot t w i = if ltb i 15 then dutyForBit t (isSet w (14 - i)) else 0
 
 -- the sequence of a packet word
 unfoldable pub sequenceOf : Timing → ℕ → Sequence
@@ -45,28 +46,31 @@ sequenceOf t w = record { first = dutyForBit t (isSet w 15); slots = tabulate 16
 
 -- what a buffer of 16 slots is filled with; another is refused
 unfoldable pub encodedSequence : List ℕ → ℕ → Timing → Answer Sequence
-encodedSequence out w t = pick (eqb (length out) 16) (given (sequenceOf t w)) (refused wrongLength)
+encodedSequence out w t = if eqb (length out) 16 then given (sequenceOf t w) else refused wrongLength
 
 -- the first duty, which stands alone
 abbrev pub firstDuty : Answer Sequence → Answer ℕ
-firstDuty a = then a (λ s. given (s .first))
+firstDuty a = andThen a (λ s. given (s .first))
 
 -- ---- the reader
 
 -- the bit that a duty stands for, or a refusal where it is neither high time
 abbrev pub dutyBit : Timing → ℕ → Answer ℕ
-dutyBit t d = pick (eqb d (t .oneHigh)) (given 1) (pick (eqb d (t .zeroHigh)) (given 0) (refused wrongDuty))
+dutyBit t d =
+    if eqb d (t .oneHigh) then given 1 else
+    if eqb d (t .zeroHigh) then given 0 else
+    refused wrongDuty
 
 -- the word of some duties, the first the highest, after the bits of w
 abbrev pub wordFrom : Timing → ℕ → List ℕ → Answer ℕ
 wordFrom t w [] = given w
-wordFrom t w (d ∷ ds) = then (dutyBit t d) (λ b. wordFrom t (2 * w + b) ds)
+wordFrom t w (d ∷ ds) = andThen (dutyBit t d) (λ b. wordFrom t (2 * w + b) ds)
 
 -- what a sequence says: first its length, then its high times, its closing zero and its duties, then its checksum
 unfoldable pub readSequence : Timing → Sequence → Answer Frame
 readSequence t s =
-    pick (eqb (length (s .slots)) 16)
-    (pick (eqb (t .zeroHigh) (t .oneHigh)) (refused wrongDuty)
-    (pick (eqb (getD (s .slots) 15 0) 0) (then (wordFrom t 0 (s .first ∷ take 15 (s .slots))) readPacket)
-    (refused wrongDuty)))
-    (refused wrongLength)
+    if eqb (length (s .slots)) 16 then
+    (if eqb (t .zeroHigh) (t .oneHigh) then refused wrongDuty else
+    if eqb (getD (s .slots) 15 0) 0 then andThen (wordFrom t 0 (s .first ∷ take 15 (s .slots))) readPacket else
+    refused wrongDuty) else
+    refused wrongLength

@@ -6,12 +6,12 @@ use Prim.Native.Nat.{ℕ, _+_, _*_, _/_, min}
 use mathlib.Core.List.{List}
 use lib.Dec.{eqb}
 use lib.ListN.{getD}
-use Rattle.dshot_reply_spec.specs.Answer.{pick}
+use Rattle.dshot_reply_spec.specs.Answer.{if_then_else_}
 use Rattle.dshot_spec.specs.Tabulate.{tabulate}
 
 -- 0 stops; any other throttle is from 48 to 2047
 unfoldable pub throttleValue : ℕ → ℕ
-throttleValue v = pick (eqb v 0) 0 (48 + min v 2000 * 1999 / 2000)
+throttleValue v = if eqb v 0 then 0 else 48 + min v 2000 * 1999 / 2000
 
 -- the values of n lanes
 unfoldable pub throttleValues : ℕ → List ℕ → List ℕ

@@ -6,7 +6,8 @@ use Prim.Native.Nat.{ℕ, _-_, _*_, _/_, _<_, _≤_}
 use mathlib.Core.Path.{_≡_}
 use mathlib.Core.Bool.{Bool}
 use lib.Dec.{eqb, ltb}
-use Rattle.dshot_reply_spec.specs.Answer.{Answer, given, refused, pick, zeroTimerClock, zeroBitrate, periodTooShort, periodTooLong}
+use Rattle.dshot_reply_spec.specs.Answer.{Answer, given, refused, if_then_else_}
+use Rattle.dshot_reply_spec.specs.Refusals.{zeroTimerClock, zeroBitrate, periodTooShort, periodTooLong}
 use Rattle.dshot_reply_spec.specs.Nearest.{nearest}
 
 -- the counts of `DshotTiming`: the period less one, the high times of a 0 and of a 1, and the period of reply samples less one
@@ -27,17 +28,17 @@ countsOf p q = record { arr = p - 1; zeroHigh = nearest (3 * p) 8; oneHigh = nea
 -- the counts of periods p and q, or why they cannot be timed
 abbrev pub timed : ℕ → ℕ → Answer Timing
 timed p q =
-    pick (ltb p 4) (refused periodTooShort)
-    (pick (ltb 65536 p) (refused periodTooLong)
-    (pick (ltb q 2) (refused periodTooShort)
-    (given (countsOf p q))))
+    if ltb p 4 then refused periodTooShort else
+    if ltb 65536 p then refused periodTooLong else
+    if ltb q 2 then refused periodTooShort else
+    given (countsOf p q)
 
 -- s samples a bit, a timer clock and a bit rate
 unfoldable pub fromClocks : ℕ → ℕ → ℕ → Answer Timing
 fromClocks s clock bitrate =
-    pick (eqb clock 0) (refused zeroTimerClock)
-    (pick (eqb bitrate 0) (refused zeroBitrate)
-    (timed (nearest clock bitrate) (nearest clock (replySampleHz s bitrate))))
+    if eqb clock 0 then refused zeroTimerClock else
+    if eqb bitrate 0 then refused zeroBitrate else
+    timed (nearest clock bitrate) (nearest clock (replySampleHz s bitrate))
 
 -- what a timing t that is given says of its clocks
 pub record ClocksGiven (s clock bitrate : ℕ) (t : Timing) : Type 0 where
@@ -50,4 +51,4 @@ pub record ClocksGiven (s clock bitrate : ℕ) (t : Timing) : Type 0 where
 
 -- the high time of a bit
 abbrev pub dutyForBit : Timing → Bool → ℕ
-dutyForBit t set = pick set (t .oneHigh) (t .zeroHigh)
+dutyForBit t set = if set then t .oneHigh else t .zeroHigh

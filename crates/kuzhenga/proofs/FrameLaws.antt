@@ -9,7 +9,8 @@ use lib.Dec.{eqb}
 use lib.ListN.{length, getD, take}
 use borrow.Author.Tests.{eq-eqb, ne-eqb, le-ltb, lt-ltb}
 use Rattle.dshot_reply_spec.proofs.Choice.{not-both}
-use Rattle.dshot_reply_spec.specs.Answer.{Answer, given, refused, pick, then, wrongDuty, wrongLength}
+use Rattle.dshot_reply_spec.specs.Answer.{Answer, given, refused, pick, andThen}
+use Rattle.dshot_reply_spec.specs.Refusals.{wrongDuty, wrongLength}
 use Rattle.dshot_spec.specs.Command.{CommandRun, none, send, counted, nextValue}
 use Rattle.dshot_spec.specs.Packet.{Frame, readPacket}
 use Rattle.dshot_spec.specs.Sequence.{Sequence, firstDuty, readSequence, wordFrom}
@@ -58,7 +59,7 @@ pub neither : (t : Timing) (s : Sequence) → length (s .slots) ≡ 16 → (s .f
     → readSequence t s ≡ refused wrongDuty
 unfolding readSequence
 neither t s l n m =
-    let e : then (wordFrom t 0 (s .first ∷ take 15 (s .slots))) readPacket ≡ refused wrongDuty =
+    let e : andThen (wordFrom t 0 (s .first ∷ take 15 (s .slots))) readPacket ≡ refused wrongDuty =
     rw (ne-eqb (s .first) (t .oneHigh) n, ne-eqb (s .first) (t .zeroHigh) m) in
     rw (
       eq-eqb (length (s .slots)) 16 l,

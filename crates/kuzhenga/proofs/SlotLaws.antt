@@ -8,7 +8,8 @@ use lib.ListN.{length, getD, drop-of-length-le}
 use lib.Seq.{ext-getD, sets, sets-eq}
 use borrow.Author.Tests.{eq-eqb, ne-eqb}
 use Rattle.dshot_reply_spec.proofs.Answered.{refused-so}
-use Rattle.dshot_reply_spec.specs.Answer.{Answer, given, refused, refusalNumber, filled, wrongLength}
+use Rattle.dshot_reply_spec.specs.Answer.{Answer, given, refused, refusalNumber, filled}
+use Rattle.dshot_reply_spec.specs.Refusals.{wrongLength}
 use Rattle.dshot_spec.proofs.Tabulated.{length-tabulate, getD-tabulate}
 use Rattle.dshot_spec.specs.Tabulate.{tabulate}
 use Rattle.kuzhenga.specs.Slots.{asked}

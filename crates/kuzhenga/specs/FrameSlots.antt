@@ -4,7 +4,8 @@ use Prim.Native.Nat.{ℕ}
 use mathlib.Core.List.{List, [], _∷_}
 use lib.Dec.{ltb}
 use lib.ListN.{getD}
-use Rattle.dshot_reply_spec.specs.Answer.{Answer, refused, pick, wrongPacketChecksum}
+use Rattle.dshot_reply_spec.specs.Answer.{Answer, refused, if_then_else_}
+use Rattle.dshot_reply_spec.specs.Refusals.{wrongPacketChecksum}
 use Rattle.dshot_spec.specs.Packet.{Kind, plain, inverted, Frame, flag, readPacket}
 use Rattle.dshot_spec.specs.Timing.{Timing}
 use Rattle.dshot_spec.specs.Command.{CommandRun, Command, none, send}
@@ -41,4 +42,4 @@ frameSlots f = f .value ∷ flag (f .telemetry) ∷ kindNumber (f .kind) ∷ []
 
 -- what a number says as a packet; a packet has sixteen bits, and no checksum of a larger number fits
 abbrev pub readWide : ℕ → Answer Frame
-readWide w = pick (ltb 65535 w) (refused wrongPacketChecksum) (readPacket w)
+readWide w = if ltb 65535 w then refused wrongPacketChecksum else readPacket w

@@ -6,6 +6,8 @@ use crate::slots;
 use capture_file::file::CaptureRead;
 use capture_file::file::CaptureWritten;
 use capture_file::line::LINE_ROOM;
+use dshot_reply::refusals::NOT_A_CAPTURE;
+use dshot_reply::refusals::WRONG_LENGTH;
 ghost use mathlib.Core.Path.{_≡_};
 ghost use mathlib.Core.Bool.{not};
 ghost use Prim.Native.Nat.{_%_};
@@ -28,7 +30,7 @@ pub extern "C" fn kuzhenga_read_capture(
     ensures { λ r. ⌜ now (capture .exit) ≡ filled captureSlots (now (capture .entry)) (asked 3 (now (capture .entry)) (readInto (now (file .entry)) (now (samples .entry)))) ⌝ }
 {
     if capture.len() != 3 {
-        return 13;
+        return WRONG_LENGTH;
     }
     match capture_file::file::read_capture(file, samples) {
         CaptureRead::Capture {
@@ -41,8 +43,8 @@ pub extern "C" fn kuzhenga_read_capture(
             capture[2] = slots::flag_of(extended_telemetry);
             0
         }
-        CaptureRead::NotACapture => 17,
-        CaptureRead::WrongLength => 13,
+        CaptureRead::NotACapture => NOT_A_CAPTURE,
+        CaptureRead::WrongLength => WRONG_LENGTH,
     }
 }
 
@@ -60,7 +62,7 @@ pub extern "C" fn kuzhenga_write_capture(
     ensures { λ r. ⌜ now (length .exit) ≡ filled countSlot (now (length .entry)) (asked 1 (now (length .entry)) (writtenInto (capture («pin_mask» % 65536) (not (eqb «extended_telemetry» 0)) (now (samples .entry))) (now (file .entry)))) ⌝ }
 {
     if length.len() != 1 {
-        return 13;
+        return WRONG_LENGTH;
     }
     match capture_file::file::write_capture(
         samples,
@@ -72,7 +74,7 @@ pub extern "C" fn kuzhenga_write_capture(
             length[0] = bytes as u16;
             0
         }
-        CaptureWritten::WrongLength => 13,
+        CaptureWritten::WrongLength => WRONG_LENGTH,
     }
 }
 
@@ -84,10 +86,10 @@ pub extern "C" fn kuzhenga_list_capture(file: &[u8], line: &mut [u8], length: &m
     ensures { λ r. ⌜ now (length .exit) ≡ filled countSlot (now (length .entry)) (asked 32 (now (line .entry)) (asked 1 (now (length .entry)) (given (fileLine (now (file .entry)))))) ⌝ }
 {
     if line.len() != LINE_ROOM {
-        return 13;
+        return WRONG_LENGTH;
     }
     if length.len() != 1 {
-        return 13;
+        return WRONG_LENGTH;
     }
     let made = capture_file::list::file_line(file);
     let bytes = made.bytes;

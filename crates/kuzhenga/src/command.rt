@@ -5,6 +5,7 @@
 use crate::slots;
 use dshot::CommandValue;
 use dshot::DshotCommandSequence;
+use dshot_reply::refusals::WRONG_LENGTH;
 ghost use mathlib.Core.Path.{_≡_};
 ghost use mathlib.Core.Bool.{not};
 ghost use Prim.Native.Nat.{_<_};
@@ -37,10 +38,10 @@ pub extern "C" fn kuzhenga_throttles_to_dshot(values: &[u16], out: &mut [u16]) -
     ensures { λ r. ⌜ now (out .exit) ≡ filled (λ l. l) (now (out .entry)) (asked 4 (now (values .entry)) (asked 4 (now (out .entry)) (given (throttleValues 4 (now (values .entry)))))) ⌝ }
 {
     if values.len() != 4 {
-        return 13;
+        return WRONG_LENGTH;
     }
     if out.len() != 4 {
-        return 13;
+        return WRONG_LENGTH;
     }
     let made = dshot::throttles_to_dshot(slots::four_values(values));
     slots::put_four(out, made[0], made[1], made[2], made[3]);
@@ -69,7 +70,7 @@ pub extern "C" fn kuzhenga_command_spin_direction(reversed: u32, sequence: &mut 
     ensures { λ r. ⌜ now (sequence .exit) ≡ filled runSlots (now (sequence .entry)) (asked 4 (now (sequence .entry)) (given (spinDirection (not (eqb reversed 0))))) ⌝ }
 {
     if sequence.len() != 4 {
-        return 13;
+        return WRONG_LENGTH;
     }
     put_run(
         DshotCommandSequence::spin_direction(reversed != 0),
@@ -115,10 +116,10 @@ pub extern "C" fn kuzhenga_command_next_value(sequence: &mut [u16], value: &mut 
     ensures { λ r. ⌜ now (value .exit) ≡ filled (λ n. commandSlots (n .command)) (now (value .entry)) (asked 4 (now (sequence .entry)) (asked 2 (now (value .entry)) (given (nextValue 10 (runAt (now (sequence .entry))))))) ⌝ }
 {
     if sequence.len() != 4 {
-        return 13;
+        return WRONG_LENGTH;
     }
     if value.len() != 2 {
-        return 13;
+        return WRONG_LENGTH;
     }
     let index = sequence[2];
     if 1 < index {

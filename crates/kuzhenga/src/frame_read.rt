@@ -7,6 +7,9 @@ use dshot::ChecksumKind;
 use dshot::DshotPacket;
 use dshot::read;
 use dshot::read::FrameRead;
+use dshot_reply::refusals::WRONG_DUTY;
+use dshot_reply::refusals::WRONG_LENGTH;
+use dshot_reply::refusals::WRONG_PACKET_CHECKSUM;
 ghost use mathlib.Core.Path.{_≡_};
 ghost use lib.ListN.{length};
 ghost use Rattle.dshot_reply_spec.specs.Answer.{refusalNumber, filled};
@@ -52,10 +55,10 @@ pub extern "C" fn kuzhenga_read_packet(packet: u32, frame: &mut [u16]) -> u32
     ensures { λ r. ⌜ now (frame .exit) ≡ filled frameSlots (now (frame .entry)) (asked 3 (now (frame .entry)) (readWide packet)) ⌝ }
 {
     if frame.len() != 3 {
-        return 13;
+        return WRONG_LENGTH;
     }
     if packet > 65535 {
-        return 15;
+        return WRONG_PACKET_CHECKSUM;
     }
     put_frame(read::read_packet(DshotPacket(packet as u16)), frame)
 }
@@ -72,16 +75,16 @@ pub extern "C" fn kuzhenga_read_compare_sequence(
     ensures { λ r. ⌜ now (frame .exit) ≡ filled frameSlots (now (frame .entry)) (asked 4 (now (timing .entry)) (asked 3 (now (frame .entry)) (readSequence (timingAt (now (timing .entry))) (record { first = first; slots = now («dma_output» .entry) })))) ⌝ }
 {
     if timing.len() != 4 {
-        return 13;
+        return WRONG_LENGTH;
     }
     if frame.len() != 3 {
-        return 13;
+        return WRONG_LENGTH;
     }
     if dma_output.len() != 16 {
-        return 13;
+        return WRONG_LENGTH;
     }
     if first > 65535 {
-        return 14;
+        return WRONG_DUTY;
     }
     put_frame(
         read::read_compare_sequence(first as u16, dma_output, slots::timing_at(timing)),

@@ -4,6 +4,8 @@ use crate::slots;
 use dshot::ChecksumKind;
 use dshot::DshotPacket;
 use dshot::PacketMade;
+use dshot_reply::refusals::VALUE_OUT_OF_RANGE;
+use dshot_reply::refusals::WRONG_LENGTH;
 ghost use mathlib.Core.Path.{_≡_};
 ghost use mathlib.Core.Bool.{not};
 ghost use lib.Dec.{eqb};
@@ -41,10 +43,10 @@ pub extern "C" fn kuzhenga_packet_try_from_value(
     ensures { λ r. ⌜ now (packet .exit) ≡ filled one (now (packet .entry)) (asked 1 (now (packet .entry)) (tryPacket value (not (eqb telemetry 0)))) ⌝ }
 {
     if packet.len() != 1 {
-        return 13;
+        return WRONG_LENGTH;
     }
     if value > 65535 {
-        return 5;
+        return VALUE_OUT_OF_RANGE;
     }
     match DshotPacket::try_from_value(value as u16, telemetry != 0) {
         PacketMade::Packet(made) => {
@@ -66,10 +68,10 @@ fn put_packets(
     ensures { λ r. ⌜ now (packets .exit) ≡ filled (λ l. l) (now (packets .entry)) (asked 4 (now (values .entry)) (asked 4 (now (packets .entry)) (given (motorPackets 4 (kindOf kind) (now (values .entry)) (lane «telemetry_lane»))))) ⌝ }
 {
     if values.len() != 4 {
-        return 13;
+        return WRONG_LENGTH;
     }
     if packets.len() != 4 {
-        return 13;
+        return WRONG_LENGTH;
     }
     for index in 0..4 {
         let packet = DshotPacket::of_kind(kind, values[index], telemetry_lane == index);

@@ -5,6 +5,8 @@ use dshot_reply::DshotReply;
 use dshot_reply::ReplyRead;
 use dshot_reply::Transitions;
 use dshot_reply::kind;
+use dshot_reply::refusals::PERIOD_OUT_OF_RANGE;
+use dshot_reply::refusals::WRONG_LENGTH;
 use dshot_reply::simulate;
 use dshot_reply::simulate::PeriodValue;
 ghost use mathlib.Core.Path.{_≡_};
@@ -41,7 +43,7 @@ pub extern "C" fn kuzhenga_reply_transitions(
     ensures { λ r. ⌜ now (word .exit) ≡ filled halves (now (word .entry)) (asked 2 (now (word .entry)) (transitionsOf 3 (now (samples .entry)) («pin_mask» % 65536))) ⌝ }
 {
     if word.len() != 2 {
-        return 13;
+        return WRONG_LENGTH;
     }
     match dshot_reply::reply_transitions(samples, (pin_mask % 65536) as u16) {
         Transitions::Word(transitions) => {
@@ -60,7 +62,7 @@ pub extern "C" fn kuzhenga_decode_gcr(transitions: u32, value: &mut [u16]) -> u3
     ensures { λ r. ⌜ now (value .exit) ≡ filled one (now (value .entry)) (asked 1 (now (value .entry)) (decodeWord transitions)) ⌝ }
 {
     if value.len() != 1 {
-        return 13;
+        return WRONG_LENGTH;
     }
     match dshot_reply::decode_gcr(transitions) {
         Decoded::Value(decoded) => {
@@ -100,7 +102,7 @@ pub extern "C" fn kuzhenga_reply_from_value(
     ensures { λ r. ⌜ now (out .exit) ≡ filled readingSlots (now (out .entry)) (asked 3 (now (out .entry)) (replyOf (value % 4096) (not (eqb «extended_telemetry» 0)))) ⌝ }
 {
     if out.len() != 3 {
-        return 13;
+        return WRONG_LENGTH;
     }
     put_reply(
         DshotReply::from_value((value % 4096) as u16, extended_telemetry != 0),
@@ -120,7 +122,7 @@ pub extern "C" fn kuzhenga_decode_sampled_reply(
     ensures { λ r. ⌜ now (out .exit) ≡ filled readingSlots (now (out .entry)) (asked 3 (now (out .entry)) (sampledReply 3 (now (samples .entry)) («pin_mask» % 65536) (not (eqb «extended_telemetry» 0)))) ⌝ }
 {
     if out.len() != 3 {
-        return 13;
+        return WRONG_LENGTH;
     }
     put_reply(
         dshot_reply::decode_sampled_reply(
@@ -139,14 +141,14 @@ pub extern "C" fn kuzhenga_period_value(period_us: u32, value: &mut [u16]) -> u3
     ensures { λ r. ⌜ now (value .exit) ≡ filled one (now (value .entry)) (asked 1 (now (value .entry)) (periodValue «period_us»)) ⌝ }
 {
     if value.len() != 1 {
-        return 13;
+        return WRONG_LENGTH;
     }
     match simulate::period_value(period_us) {
         PeriodValue::Value(v) => {
             value[0] = v;
             0
         }
-        PeriodValue::OutOfRange => 16,
+        PeriodValue::OutOfRange => PERIOD_OUT_OF_RANGE,
     }
 }
 

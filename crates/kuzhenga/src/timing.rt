@@ -7,6 +7,7 @@ use dshot::DshotPacket;
 use dshot::DshotTiming;
 use dshot::Sequenced;
 use dshot::TimingMade;
+use dshot_reply::refusals::WRONG_LENGTH;
 ghost use mathlib.Core.Path.{_≡_};
 ghost use mathlib.Core.Bool.{not};
 ghost use Prim.Native.Nat.{_%_};
@@ -28,7 +29,7 @@ pub extern "C" fn kuzhenga_timing_from_clocks(
     ensures { λ r. ⌜ now (timing .exit) ≡ filled timingSlots (now (timing .entry)) (asked 4 (now (timing .entry)) (fromClocks 3 «timer_hz» «bitrate_hz»)) ⌝ }
 {
     if timing.len() != 4 {
-        return 13;
+        return WRONG_LENGTH;
     }
     match DshotTiming::from_clocks(timer_hz, bitrate_hz) {
         TimingMade::Timing(made) => {
@@ -52,10 +53,10 @@ pub extern "C" fn kuzhenga_duty_for_bit(timing: &[u16], set: u32, duty: &mut [u1
     ensures { λ r. ⌜ now (duty .exit) ≡ filled one (now (duty .entry)) (asked 4 (now (timing .entry)) (asked 1 (now (duty .entry)) (given (dutyForBit (timingAt (now (timing .entry))) (not (eqb set 0)))))) ⌝ }
 {
     if timing.len() != 4 {
-        return 13;
+        return WRONG_LENGTH;
     }
     if duty.len() != 1 {
-        return 13;
+        return WRONG_LENGTH;
     }
     duty[0] = slots::timing_at(timing).duty_for_bit(set != 0);
     0
@@ -88,10 +89,10 @@ pub extern "C" fn kuzhenga_encode_compare_sequence(
     ensures { λ r. ⌜ now («dma_output» .exit) ≡ filled (λ s. s .slots) (now («dma_output» .entry)) (asked 4 (now (timing .entry)) (asked 1 (now (first .entry)) (encodedSequence (now («dma_output» .entry)) (packet % 65536) (timingAt (now (timing .entry)))))) ⌝ }
 {
     if timing.len() != 4 {
-        return 13;
+        return WRONG_LENGTH;
     }
     if first.len() != 1 {
-        return 13;
+        return WRONG_LENGTH;
     }
     let word = DshotPacket((packet % 65536) as u16);
     match dshot::encode_compare_sequence(word, slots::timing_at(timing), dma_output) {
@@ -99,6 +100,6 @@ pub extern "C" fn kuzhenga_encode_compare_sequence(
             first[0] = duty;
             0
         }
-        Sequenced::WrongLength => 13,
+        Sequenced::WrongLength => WRONG_LENGTH,
     }
 }

@@ -5,7 +5,8 @@ use Prim.Native.Nat.{ℕ, _-_}
 use lib.Dec.{ltb}
 use lib.ListN.{length}
 use borrow.Author.Tests.{eq-eqb, ne-eqb}
-use Rattle.dshot_reply_spec.specs.Answer.{given, refused, filled, pick, wrongLength}
+use Rattle.dshot_reply_spec.specs.Answer.{given, refused, filled, pick}
+use Rattle.dshot_reply_spec.specs.Refusals.{wrongLength}
 use Rattle.dshot_spec.proofs.Tabulated.{Filled, filled-none, filled-more, filled-all}
 use Rattle.dshot_spec.specs.Sequence.{Sequence, isSet, sequenceOf, encodedSequence, firstDuty}
 use Rattle.dshot_spec.specs.Tabulate.{tabulate}

@@ -6,7 +6,8 @@ use lib.ListN.{length}
 use mathlib.Core.List.{List}
 use Rattle.dshot_spec.specs.Tabulate.{tabulate}
 use Rattle.dshot_reply_spec.proofs.Answered.{refused-so, given-so}
-use Rattle.dshot_reply_spec.specs.Answer.{given, refused, wrongLength}
+use Rattle.dshot_reply_spec.specs.Answer.{given, refused}
+use Rattle.dshot_reply_spec.specs.Refusals.{wrongLength}
 use borrow.Author.Tests.{eq-eqb, ne-eqb}
 use Rattle.dshot_spec.proofs.Tabulated.{Filled, filled-none, filled-more, filled-all}
 use Rattle.dshot_spec.specs.Sequence.{frameSlot, encodedPacket}

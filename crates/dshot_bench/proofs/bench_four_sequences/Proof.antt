@@ -6,7 +6,8 @@ use Prim.Native.Nat.{ℕ, _-_}
 use lib.ListN.{length, getD, List·getD-map}
 use borrow.Author.Tests.{eq-eqb, ne-eqb}
 use Rattle.dshot_reply_spec.proofs.Answered.{refused-both, given-both}
-use Rattle.dshot_reply_spec.specs.Answer.{given, refused, wrongLength}
+use Rattle.dshot_reply_spec.specs.Answer.{given, refused}
+use Rattle.dshot_reply_spec.specs.Refusals.{wrongLength}
 use Rattle.dshot_spec.proofs.Tabulated.{Filled, filled-none, filled-more, filled-all}
 use Rattle.dshot_spec.specs.Packet.{motorPackets, inverted, lane}
 use Rattle.dshot_spec.specs.Sequence.{sequenceOf}

@@ -5,7 +5,7 @@ use Prim.Native.Nat.{ℕ}
 use borrow.Author.Needs.{needs}
 use Rattle.dshot_reply.proofs.decode_sampled_reply.Statement.{statement}
 use Rattle.dshot_reply.proofs.decode_sampled_reply.Tie as tie
-use Rattle.dshot_reply_spec.specs.Answer.{Answer, then}
+use Rattle.dshot_reply_spec.specs.Answer.{Answer, andThen}
 use Rattle.dshot_reply_spec.specs.Reading.{sampledReply, wordReply}
 use Rattle.dshot_reply.specs.Answers.{transitionsAnswer}
 
@@ -25,13 +25,13 @@ returns : tie.Need-returns
 unfolding sampledReply
 returns c =
     c .read-word .ensures
-    ∙ ap (λ (t : Answer ℕ). then t (λ w. wordReply w (c .before .before .before .before .before .before .args .extended-telemetry)))
+    ∙ ap (λ (t : Answer ℕ). andThen t (λ w. wordReply w (c .before .before .before .before .before .before .args .extended-telemetry)))
     (sym (ap transitionsAnswer (c .before .before .transitions .given .1)) ∙ c .before .before .before .before .reply-transitions .ensures)
 
 returns-2 : tie.Need-returns-2
 unfolding sampledReply
 returns-2 c =
-    ap (λ (t : Answer ℕ). then t (λ w. wordReply w (c .before .before .before .before .before .args .extended-telemetry)))
+    ap (λ (t : Answer ℕ). andThen t (λ w. wordReply w (c .before .before .before .before .before .args .extended-telemetry)))
     (sym (ap transitionsAnswer (c .before .error .given .1)) ∙ c .before .before .before .reply-transitions .ensures)
 
 pub decode-sampled-reply-spec : {M : Type 1} → statement M

@@ -5,7 +5,7 @@ use Prim.Native.Nat.{ℕ}
 use borrow.Author.Needs.{needs}
 use Rattle.dshot_reply.proofs.read_word.Statement.{statement}
 use Rattle.dshot_reply.proofs.read_word.Tie as tie
-use Rattle.dshot_reply_spec.specs.Answer.{Answer, then}
+use Rattle.dshot_reply_spec.specs.Answer.{Answer, andThen}
 use Rattle.dshot_reply_spec.specs.Reading.{wordReply}
 use Rattle.dshot_reply_spec.specs.Value.{replyOf}
 use Rattle.dshot_reply.specs.Answers.{decodedAnswer}
@@ -26,13 +26,13 @@ returns : tie.Need-returns
 unfolding wordReply
 returns c =
     c .from-value .ensures
-    ∙ ap (λ (d : Answer ℕ). then d (λ v. replyOf v (c .before .before .before .before .before .args .extended-telemetry)))
+    ∙ ap (λ (d : Answer ℕ). andThen d (λ v. replyOf v (c .before .before .before .before .before .args .extended-telemetry)))
     (sym (ap decodedAnswer (c .before .before .value .given .1)) ∙ c .before .before .before .before .decode-gcr .ensures)
 
 returns-2 : tie.Need-returns-2
 unfolding wordReply
 returns-2 c =
-    ap (λ (d : Answer ℕ). then d (λ v. replyOf v (c .before .before .before .before .args .extended-telemetry)))
+    ap (λ (d : Answer ℕ). andThen d (λ v. replyOf v (c .before .before .before .before .args .extended-telemetry)))
     (sym (ap decodedAnswer (c .before .error .given .1)) ∙ c .before .before .before .decode-gcr .ensures)
 
 pub read-word-spec : {M : Type 1} → statement M

@@ -7,7 +7,8 @@ use native.Mathlib.Omega.{arith}
 use lib.ListN.{length, getD, take}
 use lib.Seq.{length-take-le}
 use borrow.Author.Tests.{eq-eqb, ne-eqb}
-use Rattle.dshot_reply_spec.specs.Answer.{Answer, given, refused, then, wrongDuty}
+use Rattle.dshot_reply_spec.specs.Answer.{Answer, given, refused, andThen}
+use Rattle.dshot_reply_spec.specs.Refusals.{wrongDuty}
 use Rattle.dshot_spec.specs.Packet.{readPacket}
 use Rattle.dshot_spec.specs.Sequence.{Sequence, readSequence, wordFrom}
 use Rattle.dshot.specs.Answers.{timingOf}
@@ -70,7 +71,7 @@ returns-4 c =
     let s : Sequence = record { first = a .first; slots = a .dma-output .now } in
     let e : given (c .before .before .word .given .0 .0) ≡ wordFrom t 0 (a .first ∷ take 15 (a .dma-output .now)) =
     sym (ap wordAnswer (c .before .before .word .given .1)) ∙ c .before .before .before .before .read-word .ensures in
-    c .read-packet .ensures ∙ ap (λ (x : Answer ℕ). then x readPacket) e
+    c .read-packet .ensures ∙ ap (λ (x : Answer ℕ). andThen x readPacket) e
     ∙ sym (sequence-tested t s (tested .before .before .before .before .if1 .left) (tested .before .before .if2 .left) (tested .if3 .left))
 
 returns-5 : tie.Need-returns-5
@@ -81,7 +82,7 @@ returns-5 c =
     let s : Sequence = record { first = a .first; slots = a .dma-output .now } in
     let e : refused wrongDuty ≡ wordFrom t 0 (a .first ∷ take 15 (a .dma-output .now)) =
     sym (ap wordAnswer (c .enum-told .given .1)) ∙ c .before .before .read-word .ensures in
-    ap (λ (x : Answer ℕ). then x readPacket) e
+    ap (λ (x : Answer ℕ). andThen x readPacket) e
     ∙ sym (sequence-tested t s (tested .before .before .before .before .if1 .left) (tested .before .before .if2 .left) (tested .if3 .left))
 
 pub read-compare-sequence-spec : {M : Type 1} → statement M

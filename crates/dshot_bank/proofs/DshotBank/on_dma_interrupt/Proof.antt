@@ -6,7 +6,7 @@ use mathlib.Core.List.{[]}
 use lib.ListN.{replicate}
 use Rattle.dshot_bank_spec.specs.Calls.{refused, on-dma-interrupt}
 use Rattle.dshot_bank_spec.specs.Steps.{portRefusal}
-use Rattle.dshot_bank_spec.specs.Refusals.{noSuchMotor}
+use Rattle.dshot_reply_spec.specs.Refusals.{noSuchMotor}
 use Rattle.dshot_bank.specs.States.{motorOf, choiceOf}
 use Rattle.dshot_bank.proofs.OrderLaws.{just}
 use Rattle.dshot_bank.proofs.InterruptLaws.{just-so, stepped-so}

@@ -13,7 +13,7 @@ use Rattle.dshot_bank.specs.States.{stateOf}
 use Rattle.dshot_bank.specs.Serves.{serviceAnswer}
 use Rattle.dshot_bank.proofs.ReplyLaws.{three-fit}
 use lib.ListN.{replicate}
-use Rattle.dshot_reply_spec.specs.Answer.{wrongLength}
+use Rattle.dshot_reply_spec.specs.Refusals.{wrongLength}
 use Rattle.dshot_bank.specs.Orders.{ordersIn}
 use borrow.Author.Needs.{needs}
 use Rattle.dshot_bank.proofs.DshotBank.service.Statement.{statement}

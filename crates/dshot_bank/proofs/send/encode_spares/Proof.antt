@@ -3,7 +3,7 @@
 use mathlib.Core.Path.{_∙_, refl, sym}
 use lib.ListN.{replicate}
 use borrow.Author.Tests.{not-true, not-false}
-use Rattle.dshot_reply_spec.specs.Answer.{wrongLength}
+use Rattle.dshot_reply_spec.specs.Refusals.{wrongLength}
 use Rattle.dshot.specs.Answers.{words, timingOf}
 use Rattle.dshot_bank_spec.specs.FrameSet.{firstDuties}
 use Rattle.dshot_bank_spec.proofs.LaneLaws.{on, off}

@@ -3,7 +3,8 @@
 use mathlib.Core.Path.{_≡_, _∙_}
 use borrow.Author.Tests.{lt-ltb, le-ltb}
 use Rattle.dshot_reply_spec.proofs.Answered.{refused-so}
-use Rattle.dshot_reply_spec.specs.Answer.{refused, wrongPacketChecksum}
+use Rattle.dshot_reply_spec.specs.Answer.{refused}
+use Rattle.dshot_reply_spec.specs.Refusals.{wrongPacketChecksum}
 use Rattle.dshot_spec.specs.Packet.{readPacket}
 use Rattle.kuzhenga.specs.FrameSlots.{frameSlots, readWide}
 use Rattle.kuzhenga.proofs.SlotLaws.{asked-so, wrong-length, passed-on}
