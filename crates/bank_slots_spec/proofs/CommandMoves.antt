@@ -12,6 +12,7 @@ use lib.ListN.{length, getD, set, take, drop, replicate, length-drop}
 use lib.Seq.{getD-take, getD-drop, length-take-le}
 use borrow.Author.Tests.{eq-eqb, ne-eqb}
 use Rattle.dshot_reply_spec.specs.Answer.{pick}
+use Rattle.dshot_reply_spec.specs.Refusals.{noReply}
 use Rattle.dshot_spec.specs.Tabulate.{tabulate}
 use Rattle.dshot_spec.specs.Throttle.{throttleValue, throttleValues}
 use Rattle.dshot_bank_spec.specs.Lanes.{any, isSome}
@@ -22,7 +23,7 @@ use Rattle.dshot_bank_spec.proofs.LaneLaws.{on, off}
 use Rattle.bank_slots_spec.specs.Memory.{Row, _holds_, at, write, longRows}
 use Rattle.bank_slots_spec.specs.Memory as Memory
 use Rattle.bank_slots_spec.specs.Places.{slots, TIMING, VALUES, LEASE-STARTED, LEASE-OVER, REQUEST, BIDIRECTIONAL, REPLIES}
-use Rattle.bank_slots_spec.specs.Load.{choice, four, timingAt, bankAt, load}
+use Rattle.bank_slots_spec.specs.Load.{choice, REFUSED, four, timingAt, bankAt, load}
 use Rattle.bank_slots_spec.specs.Store.{valueRows, store}
 use Rattle.bank_slots_spec.specs.Moves.{Moves, onCore}
 use Rattle.bank_slots_spec.specs.Outs.{motorSlots}
@@ -40,10 +41,10 @@ newRows t =
     ∷ (TIMING + 1 holds at t 1)
     ∷ (TIMING + 2 holds at t 2)
     ∷ (TIMING + 3 holds at t 3)
-    ∷ (REPLIES holds 7)
-    ∷ (REPLIES + 9 holds 7)
-    ∷ (REPLIES + 18 holds 7)
-    ∷ (REPLIES + 27 holds 7)
+    ∷ (REPLIES holds REFUSED + noReply)
+    ∷ (REPLIES + 9 holds REFUSED + noReply)
+    ∷ (REPLIES + 18 holds REFUSED + noReply)
+    ∷ (REPLIES + 27 holds REFUSED + noReply)
     ∷ []
 
 pub new-bank : (t : List ℕ) → write (newRows t) (replicate slots 0) ≡ store (fromLanes 4 (timingAt (at t)))

@@ -2,24 +2,25 @@
 -- the library wrote are what it writes for what is read.
 -- Assumes nothing.
 use mathlib.Core.Path.{_≡_, _∙_, refl, sym, ap, subst}
-use mathlib.Core.Bool.{Bool, true, false}
+use mathlib.Core.Bool.{Bool, true, false, true≢false}
 use mathlib.Core.List.{List, [], _∷_}
 use mathlib.Core.Option.{Option, none, some}
-use Prim.Native.Nat.{ℕ, zero, suc, _+_, _-_, _*_, _/_, _%_, _^_, _<_, _≤_}
+use Prim.Native.Nat.{ℕ, zero, suc, _+_, _-_, _*_, _/_, _%_, _^_, _<_, _≤_, min}
 use native.Mathlib.Nat.{mod-eq-of-lt}
 use native.Mathlib.Omega.{arith}
 use lib.Arith.{digits-div, digits-mod}
-use lib.Dec.{eqb, ltb}
+use lib.Dec.{eqb, ltb, leb}
 use lib.ListN.{length, getD}
-use borrow.Author.Tests.{ltb-true, eqb-true, eqb-false, lt-ltb, le-ltb, ne-eqb}
+use borrow.Author.Tests.{ltb-true, ltb-false, leb-true, eqb-true, eqb-false, lt-ltb, le-ltb, le-leb, ne-eqb}
 use Rattle.dshot_reply_spec.specs.Answer.{Answer, given, refused, pick}
 use Rattle.dshot_reply_spec.specs.Refusals.{noReply}
 use Rattle.dshot_reply_spec.specs.Value.{Reading, erpm, temp, volt, amp, debug, state, edt}
+use Rattle.dshot_reply_spec.specs.Kind.{debugKind}
 use Rattle.dshot_spec.specs.Command.{CommandRun}
 use Rattle.dshot_bank_spec.specs.State.{MotorRun, leaseOf}
 use Rattle.dshot_bank_spec.proofs.LaneLaws.{on, off}
 use Rattle.bank_slots_spec.specs.Memory.{word, long}
-use Rattle.bank_slots_spec.specs.Load.{flag, choice, reply, four}
+use Rattle.bank_slots_spec.specs.Load.{flag, choice, REFUSED, isRefusedKind, reply, four}
 use Rattle.bank_slots_spec.specs.Store.{bit, choiceSlot, leaseNumber, replyKind, replyNumber, runMotor, ofRun}
 use Rattle.bank_slots_spec.specs.Written.{isFlag, isChoice, isRun, isReply}
 use Rattle.bank_slots_spec.specs.Storable.{ChoiceFits, LeaseFits, RunFits, SequenceFits, ReplyFits}
@@ -152,7 +153,7 @@ choice-fits n = side (eqb n 0)
 abbrev someRun : ℕ → ℕ → ℕ → ℕ → ℕ → MotorRun
 someRun motor first second index left = record {
   motor = (motor - 1) % 4;
-  sequence = record { commands = first ∷ second ∷ []; index = index % 256; repeatsLeft = left % 256 };
+  sequence = record { commands = first ∷ second ∷ []; index = min index 255; repeatsLeft = left % 256 };
 }
 
 abbrev pub runOf : ℕ → ℕ → ℕ → ℕ → ℕ → Option MotorRun
@@ -181,10 +182,8 @@ run-same : (r : MotorRun) → RunFits r → someRun (r .motor + 1) (firstOf (som
 run-same r h =
     let motor : (r .motor + 1 - 1) % 4 ≡ r .motor = omega (arith, h .motor) in
     let commands = two-back (r .sequence .commands) (h .two) in
-    λ j. record {
-      motor = motor j;
-      sequence = record { commands = commands j; index = mod-eq-of-lt (h .index) j; repeatsLeft = mod-eq-of-lt (h .left) j };
-    }
+    let index : min (r .sequence .index) 255 ≡ r .sequence .index = omega (arith, h .index) in
+    λ j. record { motor = motor j; sequence = record { commands = commands j; index = index j; repeatsLeft = mod-eq-of-lt (h .left) j } }
 
 pub run-back : (o : Option MotorRun) → SequenceFits o → runOf (runMotor o) (firstOf o) (secondOf o) (indexOf o) (leftOf o) ≡ o
 run-back none h = refl
@@ -223,7 +222,8 @@ module _ (motor first second index left : ℕ) where
       let b = both (ltb index 256) (ltb left 256) (a .1) in
       let n : motor ≡ 0 → ⊥ = eqb-false motor 0 e in
       let near : motor ≡ (motor - 1) % 4 + 1 = omega (arith, ltb-true motor 5 (a .0)) in
-      (near, refl, refl, sym (mod-eq-of-lt (ltb-true index 256 (b .0))), sym (mod-eq-of-lt (ltb-true left 256 (b .1))))
+      let same : index ≡ min index 255 = omega (arith, ltb-true index 256 (b .0)) in
+      (near, refl, refl, same, sym (mod-eq-of-lt (ltb-true left 256 (b .1))))
 
   pub run-kept : isRun motor first second index left ≡ true → RunKept (runOf motor first second index left)
   run-kept = side (eqb motor 0) refl
@@ -236,8 +236,19 @@ module _ (motor first second index left : ℕ) where
 
 -- ---- replies
 
--- a kind of 7 and above is a refusal
-reply-refused : (k n : ℕ) → 7 ≤ k → reply k n ≡ pick (ltb k 12) (refused k) (refused noReply)
+-- the kinds of refusals are those of 7 to 11
+refused-kind : (number : ℕ) → 7 ≤ number → number ≤ 11 → isRefusedKind (REFUSED + number) ≡ true
+refused-kind number a b = sym (off _ _ (le-ltb (16 + number) 23 (omega arith)) (sym (le-leb (16 + number) 27 (omega arith))))
+
+pub kind-refused : (k : ℕ) → isRefusedKind k ≡ true → (23 ≤ k) × (k ≤ 27)
+kind-refused k = side (ltb k 23) refl
+  where
+    side : (t : Bool) → ltb k 23 ≡ t → pick t false (leb k 27) ≡ true → (23 ≤ k) × (k ≤ 27)
+    side true e h = absurd (true≢false (sym h))
+    side false e h = (ltb-false k 23 e, leb-true k 27 h)
+
+-- a kind of 9 and above is a refusal
+pub reply-refused : (k n : ℕ) → 9 ≤ k → reply k n ≡ pick (isRefusedKind k) (refused (k - REFUSED)) (refused noReply)
 reply-refused k n h = sym (
     off _ _ (ne-eqb k 0 (λ e. omega arith))
     (off _ _ (ne-eqb k 1 (λ e. omega arith))
@@ -245,53 +256,67 @@ reply-refused k n h = sym (
     (off _ _ (ne-eqb k 3 (λ e. omega arith))
     (off _ _ (ne-eqb k 4 (λ e. omega arith))
     (off _ _ (ne-eqb k 5 (λ e. omega arith))
-    (off _ _ (ne-eqb k 6 (λ e. omega arith)) refl)))))))
+    (off _ _ (ne-eqb k 6 (λ e. omega arith))
+    (off _ _ (ne-eqb k 7 (λ e. omega arith))
+    (off _ _ (ne-eqb k 8 (λ e. omega arith)) refl)))))))))
 
-refused-written : (k n : ℕ) → 7 ≤ k → isReply k n ≡ pick (ltb k 12) (eqb n 0) false
+refused-written : (k n : ℕ) → 9 ≤ k → isReply k n ≡ pick (isRefusedKind k) (eqb n 0) false
 refused-written k n h = sym (
     off _ _ (ne-eqb k 0 (λ e. omega arith))
-    (off _ _ (ne-eqb k 4 (λ e. omega arith))
-    (off _ _ (le-ltb k 6 (omega arith)) refl)))
+    (off _ _ (le-ltb k 8 (omega arith))
+    (off _ _ (ne-eqb k 8 (λ e. omega arith)) refl)))
 
 pub reply-back : (a : Answer Reading) → ReplyFits a → reply (replyKind a) (replyNumber a) ≡ a
+unfolding debugKind
 reply-back (given (erpm n)) h = refl
 reply-back (given (temp n)) h = ap (λ (x : ℕ). given (temp x)) (mod-eq-of-lt h)
 reply-back (given (volt n)) h = ap (λ (x : ℕ). given (volt x)) (mod-eq-of-lt h)
 reply-back (given (amp n)) h = ap (λ (x : ℕ). given (amp x)) (mod-eq-of-lt h)
-reply-back (given (debug channel n)) h =
-    let c : (256 * channel + n) / 256 % 256 ≡ channel = omega (arith, h .0, h .1) in
-    let v : (256 * channel + n) % 256 ≡ n = omega (arith, h .1) in
-    λ j. given (debug (c j) (v j))
+reply-back (given (debug zero n)) h = absurd (omega (arith, h .0))
+reply-back (given (debug (suc zero) n)) h = ap (λ (x : ℕ). given (debug 1 x)) (mod-eq-of-lt (h .2))
+reply-back (given (debug (suc (suc zero)) n)) h = ap (λ (x : ℕ). given (debug 2 x)) (mod-eq-of-lt (h .2))
+reply-back (given (debug (suc (suc (suc zero))) n)) h = ap (λ (x : ℕ). given (debug 3 x)) (mod-eq-of-lt (h .2))
+reply-back (given (debug (suc (suc (suc (suc channel)))) n)) h = absurd (omega (arith, h .1))
 reply-back (given (state n)) h = ap (λ (x : ℕ). given (state x)) (mod-eq-of-lt h)
 reply-back (given edt) h = refl
-reply-back (refused number) h = reply-refused number 0 (h .0) ∙ sym (on _ _ (lt-ltb number 12 (omega (arith, h .1))) refl)
+reply-back (refused number) h =
+    let same : REFUSED + number - REFUSED ≡ number = omega arith in
+    reply-refused (REFUSED + number) 0 (omega (arith, h .0)) ∙ sym (on _ _ (refused-kind number (h .0) (h .1)) (sym (ap refused same)))
 
 pub reply-written : (a : Answer Reading) → ReplyFits a → isReply (replyKind a) (replyNumber a) ≡ true
+unfolding debugKind
 reply-written (given (erpm n)) h = refl
 reply-written (given (temp n)) h = lt-ltb n 256 h
 reply-written (given (volt n)) h = lt-ltb n 256 h
 reply-written (given (amp n)) h = lt-ltb n 256 h
-reply-written (given (debug channel n)) h = lt-ltb (256 * channel + n) 65536 (omega (arith, h .0, h .1))
+reply-written (given (debug zero n)) h = absurd (omega (arith, h .0))
+reply-written (given (debug (suc zero) n)) h = lt-ltb n 256 (h .2)
+reply-written (given (debug (suc (suc zero)) n)) h = lt-ltb n 256 (h .2)
+reply-written (given (debug (suc (suc (suc zero))) n)) h = lt-ltb n 256 (h .2)
+reply-written (given (debug (suc (suc (suc (suc channel)))) n)) h = absurd (omega (arith, h .1))
 reply-written (given (state n)) h = lt-ltb n 256 h
 reply-written (given edt) h = refl
-reply-written (refused number) h = refused-written number 0 (h .0) ∙ sym (on _ _ (lt-ltb number 12 (omega (arith, h .1))) refl)
+reply-written (refused number) h =
+    refused-written (REFUSED + number) 0 (omega (arith, h .0)) ∙ sym (on _ _ (refused-kind number (h .0) (h .1)) refl)
 
 pub reply-fits : (k n : ℕ) → ReplyFits (reply k n)
 reply-fits zero n = tt
 reply-fits (suc zero) n = omega arith
 reply-fits (suc (suc zero)) n = omega arith
 reply-fits (suc (suc (suc zero))) n = omega arith
-reply-fits (suc (suc (suc (suc zero)))) n = (omega arith, omega arith)
-reply-fits (suc (suc (suc (suc (suc zero))))) n = omega arith
-reply-fits (suc (suc (suc (suc (suc (suc zero)))))) n = tt
-reply-fits (suc (suc (suc (suc (suc (suc (suc k))))))) n =
-    subst ReplyFits (sym (reply-refused number n (omega arith))) (side (ltb number 12) refl)
+reply-fits (suc (suc (suc (suc zero)))) n = (omega arith, omega arith, omega arith)
+reply-fits (suc (suc (suc (suc (suc zero))))) n = (omega arith, omega arith, omega arith)
+reply-fits (suc (suc (suc (suc (suc (suc zero)))))) n = (omega arith, omega arith, omega arith)
+reply-fits (suc (suc (suc (suc (suc (suc (suc zero))))))) n = omega arith
+reply-fits (suc (suc (suc (suc (suc (suc (suc (suc zero)))))))) n = tt
+reply-fits (suc (suc (suc (suc (suc (suc (suc (suc (suc k))))))))) n =
+    subst ReplyFits (sym (reply-refused kind n (omega arith))) (side (isRefusedKind kind) refl)
   where
-    number : ℕ
-    number = suc (suc (suc (suc (suc (suc (suc k))))))
+    kind : ℕ
+    kind = suc (suc (suc (suc (suc (suc (suc (suc (suc k))))))))
 
-    side : (t : Bool) → ltb number 12 ≡ t → ReplyFits (pick t (refused number) (refused noReply))
-    side true e = let l : number < 12 = ltb-true number 12 e in (omega arith, omega arith)
+    side : (t : Bool) → isRefusedKind kind ≡ t → ReplyFits (pick t (refused (kind - REFUSED)) (refused noReply))
+    side true e = let l = kind-refused kind e in (omega (arith, l .0), omega (arith, l .1))
     side false e = (omega arith, omega arith)
 
 -- a reply's kind and number are what is written for the reply that is read
@@ -299,18 +324,24 @@ abbrev ReplyKept : ℕ → ℕ → Answer Reading → Type 0
 ReplyKept k n a = (k ≡ replyKind a) × (n ≡ replyNumber a)
 
 pub reply-kept : (k n : ℕ) → isReply k n ≡ true → ReplyKept k n (reply k n)
+unfolding debugKind
 reply-kept zero n h = (refl, refl)
 reply-kept (suc zero) n h = (refl, sym (mod-eq-of-lt (ltb-true n 256 h)))
 reply-kept (suc (suc zero)) n h = (refl, sym (mod-eq-of-lt (ltb-true n 256 h)))
 reply-kept (suc (suc (suc zero))) n h = (refl, sym (mod-eq-of-lt (ltb-true n 256 h)))
-reply-kept (suc (suc (suc (suc zero)))) n h = (refl, omega (arith, ltb-true n 65536 h))
+reply-kept (suc (suc (suc (suc zero)))) n h = (refl, sym (mod-eq-of-lt (ltb-true n 256 h)))
 reply-kept (suc (suc (suc (suc (suc zero))))) n h = (refl, sym (mod-eq-of-lt (ltb-true n 256 h)))
-reply-kept (suc (suc (suc (suc (suc (suc zero)))))) n h = (refl, eqb-true n 0 h)
-reply-kept (suc (suc (suc (suc (suc (suc (suc k))))))) n h =
-    subst (ReplyKept number n) (on _ _ (b .0) refl ∙ sym (reply-refused number n (omega arith))) (refl, eqb-true n 0 (b .1))
+reply-kept (suc (suc (suc (suc (suc (suc zero)))))) n h = (refl, sym (mod-eq-of-lt (ltb-true n 256 h)))
+reply-kept (suc (suc (suc (suc (suc (suc (suc zero))))))) n h = (refl, sym (mod-eq-of-lt (ltb-true n 256 h)))
+reply-kept (suc (suc (suc (suc (suc (suc (suc (suc zero)))))))) n h = (refl, eqb-true n 0 h)
+reply-kept (suc (suc (suc (suc (suc (suc (suc (suc (suc k))))))))) n h =
+    subst (ReplyKept kind n) (on _ _ (b .0) refl ∙ sym (reply-refused kind n (omega arith))) (same, eqb-true n 0 (b .1))
   where
-    number : ℕ
-    number = suc (suc (suc (suc (suc (suc (suc k))))))
+    kind : ℕ
+    kind = suc (suc (suc (suc (suc (suc (suc (suc (suc k))))))))
 
-    b : (ltb number 12 ≡ true) × (eqb n 0 ≡ true)
-    b = both (ltb number 12) (eqb n 0) (sym (refused-written number n (omega arith)) ∙ h)
+    b : (isRefusedKind kind ≡ true) × (eqb n 0 ≡ true)
+    b = both (isRefusedKind kind) (eqb n 0) (sym (refused-written kind n (omega arith)) ∙ h)
+
+    same : kind ≡ REFUSED + (kind - REFUSED)
+    same = omega (arith, kind-refused kind (b .0) .0)

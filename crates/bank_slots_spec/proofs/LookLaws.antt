@@ -4,8 +4,7 @@ use mathlib.Core.Path.{_≡_, _∙_, refl, sym, ap}
 use mathlib.Core.Bool.{Bool, true, false, not}
 use mathlib.Core.List.{List, [], _∷_, _++_, append-assoc}
 use mathlib.Core.Option.{Option, none, some}
-use Prim.Native.Nat.{ℕ, zero, suc, _+_, _*_, _/_, _%_, _<_, _≤_, zero-le}
-use native.Mathlib.Nat.{le-antisymm, le-of-suc-le-suc}
+use Prim.Native.Nat.{ℕ, zero, suc, _+_, _-_, _*_, _/_, _%_, _<_, _≤_, zero-le}
 use native.Mathlib.Omega.{arith}
 use lib.Dec.{eqb, ltb}
 use lib.ListN.{length, getD, set, take, drop, replicate, length-set}
@@ -26,7 +25,7 @@ use Rattle.dshot_bank_spec.specs.Calls as Call
 use Rattle.dshot_bank_spec.proofs.LaneLaws.{off}
 use Rattle.bank_slots_spec.specs.Memory.{_holds_, at, write, word, wordRows}
 use Rattle.bank_slots_spec.specs.Places.{VALUES, RUN, FAULTED, BIDIRECTIONAL, REPLIES-HELD, IN-SECOND, FRAMES-STARTED, FRAMES-COMPLETED, LANE-COMPLETIONS, BUSY-SKIPS, LEASE-EXPIRIES, FRAME-TIMEOUTS, DMA-FAULTS, SPURIOUS, REPLIES}
-use Rattle.bank_slots_spec.specs.Load.{flag, reply, four, fourLists, statsAt, laneAt, bankAt, load}
+use Rattle.bank_slots_spec.specs.Load.{flag, REFUSED, isRefusedKind, reply, four, fourLists, statsAt, laneAt, bankAt, load}
 use Rattle.bank_slots_spec.specs.Store.{bit}
 use Rattle.bank_slots_spec.specs.Places as Places
 use Rattle.bank_slots_spec.specs.Storable.{Below}
@@ -35,7 +34,7 @@ use Rattle.bank_slots_spec.specs.Called.{Called, fit, sized, number, sta
 use Rattle.bank_slots_spec.specs.Outs.{wordSlots, countSlots, replyCountSlots, replySlots, repliesSlots, slotsOf, outAfter}
 use Rattle.bank_slots_spec.specs.Parts.{slotRows}
 use Rattle.bank_slots_spec.proofs.MemoryLaws.{length-write}
-use Rattle.bank_slots_spec.proofs.FieldLaws.{word-low, word-high}
+use Rattle.bank_slots_spec.proofs.FieldLaws.{word-low, word-high, kind-refused, reply-refused}
 use Rattle.bank_slots_spec.proofs.FillLaws.{tabulated, filled-to, filled}
 use Rattle.bank_slots_spec.proofs.MoveLaws.{moves-write, stays}
 use Rattle.bank_slots_spec.proofs.CalledLaws.{state-short, answer-unfit, answer-fits, called-unfit, called-done, out-kept, out-filled}
@@ -179,23 +178,21 @@ past h z = omega arith
 short-of : {m k : ℕ} → k ≤ m + 1 → (k ≡ m + 1 → ⊥) → k ≤ m
 short-of h z = omega arith
 
--- a number of no other kind is that of a missing reply
-pub no-kind : (k n : ℕ) → (k ≡ 0 → ⊥) → (k ≡ 1 → ⊥) → (k ≡ 2 → ⊥) → (k ≡ 3 → ⊥) → (k ≡ 4 → ⊥) → (k ≡ 5 → ⊥) → (k ≡ 6 → ⊥)
-    → (k ≡ 8 → ⊥) → (k ≡ 9 → ⊥) → (k ≡ 10 → ⊥) → (k ≡ 11 → ⊥) → refused noReply ≡ reply k n
-no-kind k n a b c d e f g h i j m =
-    off _ _ (ne-eqb k 0 a)
-    (off _ _ (ne-eqb k 1 b)
-    (off _ _ (ne-eqb k 2 c)
-    (off _ _ (ne-eqb k 3 d)
-    (off _ _ (ne-eqb k 4 e)
-    (off _ _ (ne-eqb k 5 f)
-    (off _ _ (ne-eqb k 6 g) (last (ltb k 12) refl)))))))
+seven : {k : ℕ} → 23 ≤ k → k ≤ 23 → 7 ≡ k - REFUSED
+seven h l = omega arith
+
+-- a kind that is none of a reading's and of no refusal but that of a missing reply
+pub no-kind : (k n : ℕ) → (k ≡ 0 → ⊥) → (k ≡ 1 → ⊥) → (k ≡ 2 → ⊥) → (k ≡ 3 → ⊥) → (k ≡ 4 → ⊥) → (k ≡ 5 → ⊥) → (k ≡ 6 → ⊥) → (k ≡ 7 → ⊥) → (k ≡ 8 → ⊥)
+    → (k ≡ 24 → ⊥) → (k ≡ 25 → ⊥) → (k ≡ 26 → ⊥) → (k ≡ 27 → ⊥) → refused noReply ≡ reply k n
+no-kind k n a b c d e f g h i j l m o = last (isRefusedKind k) refl ∙ sym (reply-refused k n above)
   where
-    last : (t : Bool) → ltb k 12 ≡ t → _≡_ {A = Reply.Answer Reading} (refused noReply) (pick t (refused k) (refused noReply))
+    above : 9 ≤ k
+    above = past (past (past (past (past (past (past (past (past zero-le a) b) c) d) e) f) g) h) i
+
+    last : (t : Bool) → isRefusedKind k ≡ t → _≡_ {A = Reply.Answer Reading} (refused noReply) (pick t (refused (k - REFUSED)) (refused noReply))
     last true t =
-        let least : 7 ≤ k = past (past (past (past (past (past (past zero-le a) b) c) d) e) f) g in
-        let most : k ≤ 7 = short-of (short-of (short-of (short-of (le-of-suc-le-suc (ltb-true k 12 t)) m) j) i) h in
-        ap refused (le-antisymm least most)
+        let w = kind-refused k t in
+        ap refused (seven (w .0) (short-of (short-of (short-of (short-of (w .1) o) m) l) j))
     last false t = refl
 
 -- a reply takes four slots
@@ -263,27 +260,32 @@ module _ (xs out : List ℕ) where
         look-told take-replies 17 xs out n l (replied (taken held)) (λ b. ap (λ (t : Bool). replied (taken t)) e) refl h .1,
       )
 
-      -- none are held
-      pub none-taken : {after : List ℕ} → flag (at xs REPLIES-HELD) ≡ false → after ≡ replicate 17 0 → Taken xs after 0
-      unfolding load
-      none-taken e h = taken-so e (stays (ap (λ (t : Bool). onCore (λ (c : Core). withFrame (withRepliesHeld t (c .frame)) c) (bankAt (at xs))) e)) h
+      -- the reply that is handed out of the lane whose slots begin there: none where none are held
+      abbrev pub handed : Bool → ℕ → Reply.Answer Reading
+      handed held from = if held then reply (at xs from) (word (from + 1) (at xs)) else refused noReply
 
-      -- a lane's reply put behind what is there
-      abbrev pub laneTold : ℕ → ℕ → List ℕ → List ℕ
-      laneTold from to before = write (slotRows to (replySlots (reply (at xs from) (word (from + 1) (at xs))))) before
+      -- put behind what is there
+      abbrev pub laneTold : Bool → ℕ → ℕ → List ℕ → List ℕ
+      laneTold held from to before = write (slotRows to (replySlots (handed held from))) before
+
+      all-told : (held : Bool) → bit held ∷ fourLists (λ (i : ℕ). replySlots (handed held (REPLIES + 9 * i))) ≡ repliesSlots (taken held)
+      all-told true = refl
+      all-told false = refl
 
       -- all lanes' replies
-      pub replies-taken : {c d e f : List ℕ} → flag (at xs REPLIES-HELD) ≡ true → c ≡ laneTold REPLIES 1 (set out 0 1) → d ≡ laneTold (REPLIES + 9) 5 c → e ≡ laneTold (REPLIES + 18) 9 d → f ≡ laneTold (REPLIES + 27) 13 e
+      pub replies-taken : {held : Bool} {c d e f : List ℕ} → held ≡ flag (at xs REPLIES-HELD) → c ≡ laneTold held REPLIES 1 (set out 0 (bit held))
+          → d ≡ laneTold held (REPLIES + 9) 5 c → e ≡ laneTold held (REPLIES + 18) 9 d → f ≡ laneTold held (REPLIES + 27) 13 e
           → Taken (set xs REPLIES-HELD 0) f 0
-      replies-taken {f = f} t c d e q =
-          let lane : ℕ → Reply.Answer Reading = λ (i : ℕ). laneAt (at xs) i .reply in
+      replies-taken {held} {f = f} t c d e q =
+          let lane : ℕ → Reply.Answer Reading = λ (i : ℕ). handed held (REPLIES + 9 * i) in
           let r : ℕ → List ℕ = λ (i : ℕ). replySlots (lane i) in
-          let one : Begins 1 (1 ∷ []) (set out 0 1) = record { first = filled-to (1 ∷ []) out 0 (omega arith); size = length-set out 0 1 ∙ l } in
+          let one : Begins 1 (bit held ∷ []) (set out 0 (bit held)) = record { first = filled-to (bit held ∷ []) out 0 (omega arith); size = length-set out 0 (bit held) ∙ l } in
           let all = lane-told (lane 3) (lane-told (lane 2) (lane-told (lane 1) (lane-told (lane 0) one (omega arith) c) (omega arith) d) (omega arith) e) (omega arith) q in
-          taken-so t (moves-write ((REPLIES-HELD holds 0) ∷ []) xs n refl refl (λ w. ((w .0 .0, w .0 .1, w .0 .2, w .0 .3, w .0 .4, refl), w .1)))
+          taken-so (sym t) (moves-write ((REPLIES-HELD holds 0) ∷ []) xs n refl refl (λ w. ((w .0 .0, w .0 .1, w .0 .2, w .0 .3, w .0 .4, refl), w .1)))
           (sym (take-all 17 f (omega (arith, all .size)))
           ∙ all .first
-          ∙ ap (λ (u : List ℕ). 1 ∷ u) (append-assoc (r 0 ++ r 1) (r 2) (r 3) ∙ append-assoc (r 0) (r 1) (r 2 ++ r 3)))
+          ∙ ap (λ (u : List ℕ). bit held ∷ u) (append-assoc (r 0 ++ r 1) (r 2) (r 3) ∙ append-assoc (r 0) (r 1) (r 2 ++ r 3))
+          ∙ all-told held)
 
 -- ---- the view
 

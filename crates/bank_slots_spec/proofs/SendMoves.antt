@@ -28,7 +28,7 @@ use Rattle.dshot_bank_spec.specs.Steps.{buffersFit}
 use Rattle.dshot_bank_spec.proofs.LaneLaws.{on, off, under}
 use Rattle.bank_slots_spec.specs.Memory.{Row, _holds_, at, write, over, within, word, wordRows, longRows}
 use Rattle.bank_slots_spec.specs.Places.{slots, VALUES, REQUEST, REQUEST-SENT, RUN, BUSY, IN-SECOND, COMPLETION-MASK, STARTED, FRAMES-STARTED}
-use Rattle.bank_slots_spec.specs.Load.{flag, choice, sequenceAt, bankAt, load}
+use Rattle.bank_slots_spec.specs.Load.{flag, choice, runFrom, bankAt, load}
 use Rattle.bank_slots_spec.specs.Store.{bit}
 use Rattle.bank_slots_spec.specs.Written.{WrittenAt}
 use Rattle.bank_slots_spec.specs.Moves.{Moves, onCore}
@@ -49,20 +49,20 @@ runNext c = withCommandSequence (nextOfRun (c .commandSequence) .left) c
 
 module _ (xs : List ℕ) where
   -- the run in the slots, where there is one, and its next frame
-  next-there : (at xs RUN ≡ 0 → ⊥) → {next : Next} → next ≡ nextValue 10 (sequenceAt (at xs))
+  next-there : (at xs RUN ≡ 0 → ⊥) → {next : Next} → next ≡ nextValue 10 (runFrom (RUN + 1) (at xs))
       → nextOfRun (load xs .core .commandSequence) ≡ nextOf ((at xs RUN - 1) % 4) (next .command) (next .run)
   unfolding load
   next-there h e =
-      sym (ap nextOfRun (off none (some (record { motor = (at xs RUN - 1) % 4; sequence = sequenceAt (at xs) })) (ne-eqb (at xs RUN) 0 h) refl))
+      sym (ap nextOfRun (off none (some (record { motor = (at xs RUN - 1) % 4; sequence = runFrom (RUN + 1) (at xs) })) (ne-eqb (at xs RUN) 0 h) refl))
       ∙ ap (λ (v : Next). nextOf ((at xs RUN - 1) % 4) (v .command) (v .run)) (sym e)
 
   -- no run
   sequence-none : at xs RUN ≡ 0 → load xs .core .commandSequence ≡ none
   unfolding load
-  sequence-none h = sym (on none (some (record { motor = (at xs RUN - 1) % 4; sequence = sequenceAt (at xs) })) (eq-eqb (at xs RUN) 0 h) refl)
+  sequence-none h = sym (on none (some (record { motor = (at xs RUN - 1) % 4; sequence = runFrom (RUN + 1) (at xs) })) (eq-eqb (at xs RUN) 0 h) refl)
 
 -- what a step of a run answers, and what it leaves: the run after it, or none where it is spent
-pub run-next : (xs : List ℕ) {ys : List ℕ} → (at xs RUN ≡ 0 → ⊥) → (next : Next) → next ≡ nextValue 10 (sequenceAt (at xs)) → {k : Command} → next .command ≡ k
+pub run-next : (xs : List ℕ) {ys : List ℕ} → (at xs RUN ≡ 0 → ⊥) → (next : Next) → next ≡ nextValue 10 (runFrom (RUN + 1) (at xs)) → {k : Command} → next .command ≡ k
     → Moves (onCore (withCommandSequence (nextOf ((at xs RUN - 1) % 4) k (next .run) .left))) xs ys
     → (nextOf ((at xs RUN - 1) % 4) k (next .run) .command ≡ nextOfRun (load xs .core .commandSequence) .command) × Moves (onCore runNext) xs ys
 run-next xs h next e {k} c m =

@@ -1,13 +1,13 @@
 -- The arguments of an exported call of a bank that are given in slots: what the hardware answered, and a run of commands.
 -- Added, for the calls that document 01 asks for from C.
 -- Assumes nothing.
-use Prim.Native.Nat.{ℕ, _+_, _-_, _%_, min}
+use Prim.Native.Nat.{ℕ, _+_}
 use mathlib.Core.Bool.{Bool}
-use mathlib.Core.List.{List, [], _∷_}
+use mathlib.Core.List.{List}
 use lib.ListN.{getD}
 use Rattle.dshot_spec.specs.Command.{CommandRun}
-use Rattle.dshot_bank_spec.specs.Calls.{slots}
-use Rattle.bank_slots_spec.specs.Load.{flag, four}
+use Rattle.bank_slots_spec.specs.Memory.{at}
+use Rattle.bank_slots_spec.specs.Load.{flag, four, runFrom}
 
 -- ---- what the hardware answered, in twelve slots: for each lane whether it took its buffer, whether it has a capture, and its mask
 
@@ -20,7 +20,6 @@ present xs = four (λ (i : ℕ). flag (getD xs (4 + i) 0))
 abbrev pub masks : List ℕ → List ℕ
 masks xs = four (λ (i : ℕ). getD xs (8 + i) 0)
 
--- ---- a run of two commands, in four slots: the commands, the index and how often the command is still to be sent. An index above 255 is spent,
--- as 255 is, and of the last slot the low eight bits count, as in the exported call that steps a run
+-- ---- a run of two commands, in four slots
 abbrev pub runGiven : List ℕ → CommandRun
-runGiven xs = record { commands = getD xs 0 0 ∷ getD xs 1 0 ∷ []; index = min (getD xs 2 0) 255; repeatsLeft = getD xs 3 0 % 256 }
+runGiven xs = runFrom 0 (at xs)

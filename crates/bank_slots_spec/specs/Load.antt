@@ -1,13 +1,13 @@
 -- The bank that the contents of 97 slots are, whatever they are.
 -- Added, for the calls that document 01 asks for from C.
 -- Assumes nothing.
-use Prim.Native.Nat.{ℕ, _+_, _-_, _*_, _/_, _%_}
-use mathlib.Core.Bool.{Bool, not}
+use Prim.Native.Nat.{ℕ, _+_, _-_, _*_, _%_, min}
+use mathlib.Core.Bool.{Bool, false, not}
 use mathlib.Core.List.{List, [], _∷_, _++_}
 use mathlib.Core.Option.{Option, none, some}
-use lib.Dec.{eqb, ltb}
+use lib.Dec.{eqb, ltb, leb}
 use Rattle.dshot_reply_spec.specs.Answer.{Answer, given, refused, if_then_else_}
-use Rattle.dshot_reply_spec.specs.Refusals.{noReply}
+use Rattle.dshot_reply_spec.specs.Refusals.{noReply, zeroPeriod}
 use Rattle.dshot_reply_spec.specs.Value.{Reading, erpm, temp, volt, amp, debug, state, edt}
 use Rattle.dshot_spec.specs.Timing.{Timing}
 use Rattle.dshot_spec.specs.Command.{CommandRun}
@@ -23,18 +23,33 @@ flag n = not (eqb n 0)
 abbrev pub choice : ℕ → Option ℕ
 choice n = if eqb n 0 then none else some ((n - 1) % 4)
 
--- a reply by its kind and number: 0 to 6 are readings, in the order of the Rust's `DshotReply`, 7 to 11 document 01's refusals, and any other is 7
+-- a stored refusal is a kind above those of readings: this and its number, so that no number means two things
+abbrev pub REFUSED : ℕ
+REFUSED = 16
+
+-- the kinds of the five refusals of a reply, 7 to 11
+abbrev pub isRefusedKind : ℕ → Bool
+isRefusedKind k = if ltb k (REFUSED + noReply) then false else leb k (REFUSED + zeroPeriod)
+
+-- a reply by its kind and number: the kinds of the bench's line are readings, and any kind that is none is no reply
 abbrev pub reply : ℕ → ℕ → Answer Reading
 reply k n =
     if eqb k 0 then given (erpm n) else
     if eqb k 1 then given (temp (n % 256)) else
     if eqb k 2 then given (volt (n % 256)) else
     if eqb k 3 then given (amp (n % 256)) else
-    if eqb k 4 then given (debug (n / 256 % 256) (n % 256)) else
-    if eqb k 5 then given (state (n % 256)) else
-    if eqb k 6 then given edt else
-    if ltb k 12 then refused k else
+    if eqb k 4 then given (debug 1 (n % 256)) else
+    if eqb k 5 then given (debug 2 (n % 256)) else
+    if eqb k 6 then given (debug 3 (n % 256)) else
+    if eqb k 7 then given (state (n % 256)) else
+    if eqb k 8 then given edt else
+    if isRefusedKind k then refused (k - REFUSED) else
     refused noReply
+
+-- a run of two commands in the four slots from k: the commands, the index, and how often the command is still to be sent. An index above 255 is
+-- spent, as 255 is, and of the last slot the low byte counts; so it is of an argument and of the state
+abbrev pub runFrom : ℕ → (ℕ → ℕ) → CommandRun
+runFrom k m = record { commands = m k ∷ m (k + 1) ∷ []; index = min (m (k + 2)) 255; repeatsLeft = m (k + 3) % 256 }
 
 -- four of something, by its place
 abbrev pub four : {A : Type 0} → (ℕ → A) → List A
@@ -58,12 +73,9 @@ module _ (m : ℕ → ℕ) where
   abbrev pub telemetryAt : Telemetry
   telemetryAt = record { request = choice (m REQUEST); requestSent = choice (m REQUEST-SENT) }
 
-  -- a motor or none, the two commands, the index and the repeats left
-  abbrev pub sequenceAt : CommandRun
-  sequenceAt = record { commands = m (RUN + 1) ∷ m (RUN + 2) ∷ []; index = m (RUN + 3) % 256; repeatsLeft = m (RUN + 4) % 256 }
-
+  -- a motor or none, and its run
   abbrev pub runAt : Option MotorRun
-  runAt = if eqb (m RUN) 0 then none else some (record { motor = (m RUN - 1) % 4; sequence = sequenceAt })
+  runAt = if eqb (m RUN) 0 then none else some (record { motor = (m RUN - 1) % 4; sequence = runFrom (RUN + 1) m })
 
   abbrev pub frameAt : Frame
   frameAt = record {

@@ -83,9 +83,9 @@ abbrev pub replySlots : Reply.Answer Reading → List ℕ
 replySlots (given r) = 0 ∷ kindNumber r ∷ wordSlots (readingNumber r)
 replySlots (refused n) = n ∷ 0 ∷ 0 ∷ 0 ∷ []
 
--- 1 and the replies of the four lanes, or zeros where none are held
+-- 1 and the replies of the four lanes; or, where none are held, 0 and no reply of each lane, so that none reads as a rotor at rest
 abbrev pub repliesSlots : Option (List (Reply.Answer Reading)) → List ℕ
-repliesSlots none = replicate 17 0
+repliesSlots none = 0 ∷ fourLists (λ (i : ℕ). replySlots (refused noReply))
 repliesSlots (some l) = 1 ∷ fourLists (λ (i : ℕ). replySlots (getD l i (refused noReply)))
 
 -- an answer in slots

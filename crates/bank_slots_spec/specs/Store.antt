@@ -7,14 +7,15 @@ use mathlib.Core.List.{List, [], _∷_, _++_}
 use mathlib.Core.Option.{Option, none, some}
 use lib.ListN.{getD, replicate}
 use Rattle.dshot_reply_spec.specs.Answer.{Answer, given, refused, if_then_else_}
-use Rattle.dshot_reply_spec.specs.Value.{Reading, erpm, temp, volt, amp, debug, state, edt}
+use Rattle.dshot_reply_spec.specs.Value.{Reading}
+use Rattle.dshot_reply_spec.specs.Kind.{kindNumber, readingNumber}
 use Rattle.dshot_spec.specs.Timing.{Timing}
 use Rattle.dshot_spec.specs.Command.{CommandRun}
 use Rattle.dshot_bank_spec.specs.State.{Demand, Telemetry, MotorRun, Frame, Stats, Core, LaneReply, Bank}
 use Rattle.dshot_bank_spec.specs.Commands.{noReplies}
 use Rattle.bank_slots_spec.specs.Memory.{Row, _holds_, write, wordRows, longRows}
 use Rattle.bank_slots_spec.specs.Places.{slots, TIMING, VALUES, LEASE-STARTED, LEASE-OVER, REQUEST, REQUEST-SENT, RUN, BUSY, FAULTED, BIDIRECTIONAL, RECEIVING, REPLIES-WAITING, REPLIES-HELD, IN-SECOND, COMPLETION-MASK, STARTED, FRAMES-STARTED, FRAMES-COMPLETED, LANE-COMPLETIONS, BUSY-SKIPS, LEASE-EXPIRIES, FRAME-TIMEOUTS, DMA-FAULTS, SPURIOUS, REPLIES}
-use Rattle.bank_slots_spec.specs.Load.{reply, four, fourLists}
+use Rattle.bank_slots_spec.specs.Load.{REFUSED, four, fourLists}
 
 abbrev pub bit : Bool → ℕ
 bit b = if b then 1 else 0
@@ -27,24 +28,13 @@ abbrev pub leaseNumber : Option ℕ → ℕ
 leaseNumber none = 0
 leaseNumber (some duration) = duration + 1
 
+-- a stored reply has the kind and number of its line, or the kind of its refusal and 0
 abbrev pub replyKind : Answer Reading → ℕ
-replyKind (given (erpm n)) = 0
-replyKind (given (temp n)) = 1
-replyKind (given (volt n)) = 2
-replyKind (given (amp n)) = 3
-replyKind (given (debug channel n)) = 4
-replyKind (given (state n)) = 5
-replyKind (given edt) = 6
-replyKind (refused number) = number
+replyKind (given r) = kindNumber r
+replyKind (refused number) = REFUSED + number
 
 abbrev pub replyNumber : Answer Reading → ℕ
-replyNumber (given (erpm n)) = n
-replyNumber (given (temp n)) = n
-replyNumber (given (volt n)) = n
-replyNumber (given (amp n)) = n
-replyNumber (given (debug channel n)) = 256 * channel + n
-replyNumber (given (state n)) = n
-replyNumber (given edt) = 0
+replyNumber (given r) = readingNumber r
 replyNumber (refused number) = 0
 
 abbrev pub timingRows : Timing → List Row

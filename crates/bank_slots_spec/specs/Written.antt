@@ -8,6 +8,7 @@ use mathlib.Core.List.{List}
 use lib.Dec.{eqb, ltb}
 use Rattle.dshot_reply_spec.specs.Answer.{if_then_else_}
 use Rattle.bank_slots_spec.specs.Memory.{at, word}
+use Rattle.bank_slots_spec.specs.Load.{isRefusedKind}
 use Rattle.bank_slots_spec.specs.Places.{BUSY, FAULTED, BIDIRECTIONAL, RECEIVING, REPLIES-WAITING, REPLIES-HELD, IN-SECOND, REQUEST, REQUEST-SENT, RUN, REPLIES}
 
 abbrev pub isFlag : ℕ → Bool
@@ -26,9 +27,9 @@ isRun motor first second index left =
 abbrev pub isReply : ℕ → ℕ → Bool
 isReply kind n =
     if eqb kind 0 then true else
-    if eqb kind 4 then ltb n 65536 else
-    if ltb kind 6 then ltb n 256 else
-    if ltb kind 12 then eqb n 0 else
+    if ltb kind 8 then ltb n 256 else
+    if eqb kind 8 then eqb n 0 else
+    if isRefusedKind kind then eqb n 0 else
     false
 
 module _ (m : ℕ → ℕ) where
