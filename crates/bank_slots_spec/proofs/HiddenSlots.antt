@@ -120,7 +120,7 @@ unfolding outAfter
 out-told lane done out i h = refl
 out-told lane (Call.refused n) out i h = refl
 out-told lane (motor-sent m) out i h = refl
-out-told lane (serviced e o) out i h = refl
+out-told lane (serviced e o s) out i h = refl
 out-told lane (interrupted e o) out i h = refl
 out-told lane (replied r) out i h = taken-told lane r i h
 out-told lane (flag b) out i h = refl
@@ -134,7 +134,7 @@ tells-hidden : (lane : ℕ) (a : Answer) (i : ℕ) → Tells lane (hideAnswer la
 tells-hidden lane done i = refl
 tells-hidden lane (Call.refused n) i = refl
 tells-hidden lane (motor-sent m) i = refl
-tells-hidden lane (serviced e o) i = refl
+tells-hidden lane (serviced e o s) i = refl
 tells-hidden lane (interrupted e o) i = refl
 tells-hidden lane (replied r) i = refl
 tells-hidden lane (flag b) i = refl
@@ -147,7 +147,7 @@ hidden-number : (lane : ℕ) (a : Answer) → number (hideAnswer lane a) ≡ num
 hidden-number lane done = refl
 hidden-number lane (Call.refused n) = refl
 hidden-number lane (motor-sent m) = refl
-hidden-number lane (serviced e o) = refl
+hidden-number lane (serviced e o s) = refl
 hidden-number lane (interrupted e o) = refl
 hidden-number lane (replied r) = refl
 hidden-number lane (flag b) = refl

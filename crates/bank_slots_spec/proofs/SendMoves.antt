@@ -33,7 +33,7 @@ use Rattle.bank_slots_spec.specs.Store.{bit}
 use Rattle.bank_slots_spec.specs.Written.{WrittenAt}
 use Rattle.bank_slots_spec.specs.Moves.{Moves, onCore}
 use Rattle.bank_slots_spec.specs.Parts.{bumped, runStepped, marksTurned, carriedBy, requestCarried, inFlight}
-use Rattle.bank_slots_spec.specs.Outs.{codes, serviceEvent, serviceSlots}
+use Rattle.bank_slots_spec.specs.Outs.{codeGiven, codes, serviceEvent, serviceSlots}
 use Rattle.bank_slots_spec.specs.Arguments.{taken}
 use Rattle.bank_slots_spec.specs.Handles.{Serves}
 use Rattle.bank_slots_spec.proofs.MemoryLaws.{length-write}
@@ -265,18 +265,15 @@ frame-starts now ordinary a b c = moves-as (moves-then a (moves-then b c)) refl
 
 -- ---- a frame set
 
--- the numbers of the orders of a frame set that starts
-abbrev startCodes : List ℕ
-startCodes = 8 ∷ 9 ∷ 10 ∷ 11 ∷ 16 ∷ 17 ∷ 18 ∷ 19 ∷ 24 ∷ []
-
 -- what is told of a refused exchange
-refused-told : (lane : ℕ) → lane < 4 → 3 ∷ (lane + 6) ∷ (codes 9 (refusedOrders 4 lane) ++ replicate 4 0) ≡ serviceSlots faulted (refusedOrders 4 lane)
+refused-told : (inSecond : List Bool) (lane : ℕ) → lane < 4
+    → 3 ∷ (lane + 6) ∷ (codes 9 (codeGiven inSecond) (refusedOrders 4 lane) ++ replicate 4 0) ≡ serviceSlots faulted (refusedOrders 4 lane) inSecond
 unfolding tabulate
-refused-told zero h = refl
-refused-told (suc zero) h = refl
-refused-told (suc (suc zero)) h = refl
-refused-told (suc (suc (suc zero))) h = refl
-refused-told (suc (suc (suc (suc n)))) h = absurd (omega arith)
+refused-told inSecond zero h = refl
+refused-told inSecond (suc zero) h = refl
+refused-told inSecond (suc (suc zero)) h = refl
+refused-told inSecond (suc (suc (suc zero))) h = refl
+refused-told inSecond (suc (suc (suc (suc n)))) h = absurd (omega arith)
 
 -- a stepped run changes nothing that a frame set is made of
 set-stepped : (c : Core) (left : Option MotorRun) (m : Option MotorCommand) → frameSet 4 (withCommandSequence left c) m ≡ frameSet 4 c m
@@ -327,37 +324,43 @@ module _ (xs ys : List ℕ) (m : Option MotorCommand) (s : Stepped xs ys m) wher
     Sends zs out = Serves (λ (k : Bank) (u : Buffers). sending 4 now (taken lanes) [] [] [] [] u expired (k .core) (k .replies)) b b′ xs zs out
 
     sends : {f : Bank → Bank} {zs out : List ℕ} (sent : Sent) → sent ≡ sendRequested 4 now (taken lanes) before → Moves f xs zs → f (load xs) ≡ withCore (sent .core) (load xs)
-        → out ≡ serviceSlots (sentEvent (sent .started) expired) (sent .orders) → Sends zs out
+        → out ≡ serviceSlots (sentEvent (sent .started) expired) (sent .orders) (before .frame .inSecond) → Sends zs out
     sends sent e m c t = record {
       moves = moves-as m (c ∙ ap (λ (r : Sent). withCore (r .core) (load xs)) e);
       buffers = q;
-      told = t ∙ ap (λ (r : Sent). serviceSlots (sentEvent (r .started) expired) (r .orders)) e;
+      told = t ∙ ap (λ (r : Sent). serviceSlots (sentEvent (r .started) expired) (r .orders) (before .frame .inSecond)) e;
     }
 
     -- a lane refuses its buffer
     pub sends-refused : {zs out : List ℕ} (lane : ℕ) → lane ≡ position not (taken lanes) → lane < 4
         → Moves (onCore (λ (c : Core). exchangeRefused 4 lane c .core)) ys zs
-        → {codes′ : List ℕ} → codes′ ≡ codes 9 (refusedOrders 4 lane) → out ≡ 3 ∷ (lane + 6) ∷ (codes′ ++ replicate 4 0)
+        → {marks : List Bool} → marks ≡ load ys .core .frame .inSecond
+        → {told : List ℕ} → told ≡ codes 9 (codeGiven marks) (refusedOrders 4 lane) → out ≡ 3 ∷ (lane + 6) ∷ (told ++ replicate 4 0)
         → Sends zs out
     unfolding sendRequested exchangeBuffers exchangeRefused
-    sends-refused lane e h m o t =
+    sends-refused lane e h m {marks} k o t =
+        let mark = k ∙ kept (λ (c : Core). c .frame .inSecond) in
         sends (exchangeRefused 4 lane (runStepped before))
         (on _ _ (ap (λ (i : ℕ). ltb i 4) (sym e) ∙ lt-ltb lane 4 h) (ap (λ (i : ℕ). exchangeRefused 4 i (runStepped before)) e))
         (moves-then (s .1) m) refl
-        (t ∙ ap (λ (l : List ℕ). 3 ∷ (lane + 6) ∷ (l ++ replicate 4 0)) o ∙ refused-told lane h)
+        (t ∙ ap (λ (l : List ℕ). 3 ∷ (lane + 6) ∷ (l ++ replicate 4 0)) (o ∙ ap (λ (l : List Bool). codes 9 (codeGiven l) (refusedOrders 4 lane)) mark)
+        ∙ refused-told (before .frame .inSecond) lane h)
 
     -- the frame set starts
     pub sends-started : {zs out duties : List ℕ} (ordinary : Bool) {lane : ℕ} → lane ≡ position not (taken lanes) → 4 ≤ lane
         → carriedBy ordinary (load ys .core) ≡ frameSet 4 (load ys .core) m .telemetryRequest
         → Moves (onCore (λ (c : Core). frameStarted 4 now (carriedBy ordinary c) c)) ys zs
         → {event : ℕ} → event ≡ pick expired 2 0 → duties ≡ firstDuties 4 (before .timing) (packetsSent 4 before)
-        → out ≡ event ∷ 9 ∷ (startCodes ++ duties)
+        → {marks : List Bool} → marks ≡ load ys .core .frame .inSecond
+        → {told : List ℕ} → told ≡ codes 9 (codeGiven marks) (startOrders 4 []) → out ≡ event ∷ 9 ∷ (told ++ duties)
         → Sends zs out
     unfolding sendRequested exchangeBuffers tabulate
-    sends-started ordinary {lane} e h r m v d t =
+    sends-started ordinary {lane} e h r m v d {marks} k o t =
+        let mark = k ∙ kept (λ (c : Core). c .frame .inSecond) in
+        let orders = o ∙ ap (λ (l : List Bool). codes 9 (codeGiven l) (startOrders 4 [])) mark in
         let request = sym (kept (carriedBy ordinary)) ∙ r ∙ ap (λ (f : FrameSet). f .telemetryRequest) chosen in
         sends (record { started = true; orders = startOrders 4 (firstDuties 4 (before .timing) (packetsSent 4 before)); core = frameStarted 4 now (nextSet 4 before .telemetryRequest) (runStepped before) })
         (off _ _ (ap (λ (i : ℕ). ltb i 4) (sym e) ∙ le-ltb lane 4 h) refl)
         (moves-then (s .1) m)
         (ap (λ (o : Option ℕ). withCore (frameStarted 4 now o (runStepped before)) (load xs)) request)
-        (t ∙ (λ j. (v ∙ under serviceEvent expired lease-expired frame-started) j ∷ 9 ∷ (startCodes ++ d j)))
+        (t ∙ (λ j. (v ∙ under serviceEvent expired lease-expired frame-started) j ∷ 9 ∷ (orders j ++ d j)))

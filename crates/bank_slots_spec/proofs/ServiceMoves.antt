@@ -13,7 +13,7 @@ use Rattle.dshot_spec.specs.Tabulate.{tabulate}
 use Rattle.dshot_spec.specs.Lease.{elapsed, leaseExpired}
 use Rattle.dshot_reply_spec.specs.Answer.{if_then_else_}
 use Rattle.dshot_bank_spec.specs.State.{Stats, Core, Bank, Buffers, leaseOf}
-use Rattle.dshot_bank_spec.specs.With.{withBusySkips, withLeaseExpiries, withFrameTimeouts, withCore}
+use Rattle.dshot_bank_spec.specs.With.{withBusySkips, withLeaseExpiries, withFrameTimeouts, withRepliesWaiting, withRepliesHeld, withFrame, withCore}
 use Rattle.dshot_bank_spec.specs.Order.{latchOrders}
 use Rattle.dshot_bank_spec.specs.Commands.{commandStop, clearRequestSent}
 use Rattle.dshot_bank_spec.specs.Send.{latchFault}
@@ -90,7 +90,7 @@ faultSlots = 3 ∷ 5 ∷ 40 ∷ 48 ∷ 49 ∷ 50 ∷ 51 ∷ 0 ∷ 0 ∷ 0 ∷ 0 
 skips-as : {f g : Core → Skipped} {xs ys out : List ℕ} → Skips f xs ys out → f (load xs .core) ≡ g (load xs .core) → Skips g xs ys out
 skips-as {f} {g} {xs} h e = record {
   moves = moves-as (h .moves) (ap (λ (s : Skipped). withCore (s .core) (load xs)) e);
-  told = h .told ∙ ap (λ (s : Skipped). serviceSlots (s .event) (s .orders)) e;
+  told = h .told ∙ ap (λ (s : Skipped). serviceSlots (s .event) (s .orders) (load xs .core .frame .inSecond)) e;
 }
 
 module _ (now : ℕ) {xs ys : List ℕ} (m : Moves (onCore countBusySkip) xs ys) where
@@ -123,20 +123,41 @@ module _ (now : ℕ) {xs ys : List ℕ} (m : Moves (onCore countBusySkip) xs ys)
 
 -- another name of the service, at the bank that it starts from
 serves-as : {f g : Bank → Buffers → Served} {b b′ : Buffers} {xs ys out : List ℕ} → Serves f b b′ xs ys out → f (load xs) b ≡ g (load xs) b → Serves g b b′ xs ys out
-serves-as h e = record {
+serves-as {xs = xs} h e = record {
   moves = moves-as (h .moves) (ap (λ (s : Served). s .bank) e);
   buffers = h .buffers ∙ ap (λ (s : Served). s .buffers) e;
-  told = h .told ∙ ap (λ (s : Served). serviceSlots (s .event) (s .orders)) e;
+  told = h .told ∙ ap (λ (s : Served). serviceSlots (s .event) (s .orders) (load xs .core .frame .inSecond)) e;
 }
 
+-- a step that leaves the marks
+abbrev KeepsMarks : (Bank → Bank) → Type 0
+KeepsMarks g = (k : Bank) → g k .core .frame .inSecond ≡ k .core .frame .inSecond
+
 -- after a step of the bank
-serves-after : {f : Bank → Buffers → Served} {g : Bank → Bank} {b b′ : Buffers} {xs ys zs out : List ℕ} → Moves g xs ys → Serves f b b′ ys zs out
+serves-after : {f : Bank → Buffers → Served} {g : Bank → Bank} {b b′ : Buffers} {xs ys zs out : List ℕ} → KeepsMarks g → Moves g xs ys → Serves f b b′ ys zs out
     → Serves (λ (k : Bank). f (g k)) b b′ xs zs out
-serves-after {f} {g} {b} m h = record {
+serves-after {f} {g} {b} {xs = xs} marks m h = record {
   moves = moves-as (moves-then m (h .moves)) refl;
   buffers = h .buffers ∙ ap (λ (k : Bank). f k b .buffers) (m .loads);
-  told = h .told ∙ ap (λ (k : Bank). serviceSlots (f k b .event) (f k b .orders)) (m .loads);
+  told =
+      h .told
+      ∙ ap (λ (k : Bank). serviceSlots (f k b .event) (f k b .orders) (k .core .frame .inSecond)) (m .loads)
+      ∙ ap (serviceSlots (f (g (load xs)) b .event) (f (g (load xs)) b .orders)) (marks (load xs));
 }
+
+-- the steps before a frame set is sent leave them
+lease-marks : (expired : Bool) (c : Core) → expireLease 4 expired (clearRequestSent c) .frame .inSecond ≡ c .frame .inSecond
+unfolding expireLease commandStop clearRequestSent
+lease-marks true c = refl
+lease-marks false c = refl
+
+read-marks : (c : Core) → repliesRead c .frame .inSecond ≡ c .frame .inSecond
+unfolding repliesRead
+read-marks c = side (c .frame .repliesWaiting)
+  where
+    side : (t : Bool) → (if t then withFrame (withRepliesHeld true (withRepliesWaiting false (c .frame))) c else c) .frame .inSecond ≡ c .frame .inSecond
+    side true = refl
+    side false = refl
 
 -- nothing is sent: replies and buffers stay
 abbrev keeping : (Core → Skipped) → Bank → Buffers → Served
@@ -176,14 +197,16 @@ module _ (now : ℕ) (lanes samples : List ℕ) (b : Buffers) {xs ys : List ℕ}
     pub serve-skips : {ws out : List ℕ} → flag (at zs BUSY) ≡ true → Skips (serviceBusy 4 now expired) zs ws out → Serves served b b xs ws out
     unfolding serviceCore
     serve-skips t s =
-        serves-as (serves-after (moves-then m l) (serves-skipped s))
+        serves-as (serves-after (λ k. lease-marks expired (k .core)) (moves-then m l) (serves-skipped s))
         (ap (λ (x : Bool). keeping (serviceBusy 4 now x) (record { core = leased x; replies = load xs .replies }) b) ran-out ∙ off _ _ fault (on _ _ (in-flight t) refl))
 
     pub serve-sends : {b′ : Buffers} {us ws out : List ℕ} → flag (at zs BUSY) ≡ false → Moves (windowsRead (present lanes) (masks lanes) samples) zs us
         → Serves (λ (k : Bank) (b : Buffers). sending 4 now (taken lanes) [] [] [] [] b expired (k .core) (k .replies)) b b′ us ws out → Serves served b b′ xs ws out
     unfolding serviceCore
     serve-sends t r s =
-        serves-as (serves-after (moves-then m (moves-then l r)) s)
+        serves-as (serves-after
+        (λ k. read-marks (expireLease 4 expired (clearRequestSent (k .core))) ∙ lease-marks expired (k .core))
+        (moves-then m (moves-then l r)) s)
         (ap (λ (x : Bool). sending 4 now (taken lanes) [] [] [] [] b x (repliesRead (leased x)) (readReplies 4 (leased x .frame .repliesWaiting) (present lanes) (masks lanes) samples (load xs .replies))) ran-out
         ∙ off _ _ fault (off _ _ (in-flight t) refl))
 

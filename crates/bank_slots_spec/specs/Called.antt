@@ -34,7 +34,7 @@ abbrev pub number : Answer → ℕ
 number done = 0
 number (refused n) = n
 number (motor-sent m) = 0
-number (serviced e o) = 0
+number (serviced e o s) = 0
 number (interrupted e o) = 0
 number (replied r) = 0
 number (flag b) = 0

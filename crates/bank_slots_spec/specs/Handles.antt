@@ -18,10 +18,10 @@ pub record Handles (f : Core → Interrupted) (before after out : List ℕ) : Ty
 -- a service on the core that sends nothing
 pub record Skips (f : Core → Skipped) (before after out : List ℕ) : Type 0 where
   pub moves : Moves (onCore (λ (c : Core). f c .core)) before after
-  pub told : out ≡ serviceSlots (f (load before .core) .event) (f (load before .core) .orders)
+  pub told : out ≡ serviceSlots (f (load before .core) .event) (f (load before .core) .orders) (load before .core .frame .inSecond)
 
 -- a service
 pub record Serves (f : Bank → Buffers → Served) (b : Buffers) (b′ : Buffers) (before after out : List ℕ) : Type 0 where
   pub moves : Moves (λ (k : Bank). f k b .bank) before after
   pub buffers : b′ ≡ f (load before) b .buffers
-  pub told : out ≡ serviceSlots (f (load before) b .event) (f (load before) b .orders)
+  pub told : out ≡ serviceSlots (f (load before) b .event) (f (load before) b .orders) (load before .core .frame .inSecond)

@@ -1,7 +1,8 @@
 -- How an exported call of a bank puts its answer into the slots that it is lent.
 -- Added, for the calls that document 01 asks for from C.
 -- Assumes nothing.
-use Prim.Native.Nat.{ℕ, _+_, _-_, _/_, _%_}
+use mathlib.Core.Bool.{Bool, false, not}
+use Prim.Native.Nat.{ℕ, _+_, _-_, _*_, _/_, _%_}
 use mathlib.Core.List.{List, [], _∷_, _++_, map}
 use mathlib.Core.Option.{Option, none, some}
 use lib.Dec.{eqb}
@@ -12,7 +13,7 @@ use Rattle.dshot_reply_spec.specs.Answer as Reply
 use Rattle.dshot_reply_spec.specs.Value.{Reading}
 use Rattle.dshot_reply_spec.specs.Kind.{kindNumber, readingNumber}
 use Rattle.dshot_bank_spec.specs.State.{Stats}
-use Rattle.dshot_bank_spec.specs.Order.{Order}
+use Rattle.dshot_bank_spec.specs.Order.{Order, exchange-buffer, start-dma, start-frame, stop-frame, force-outputs-low, pause-and-clear, begin-receive, end-receive}
 use Rattle.dshot_bank_spec.specs.OrderNumber.{code, dutiesIn}
 use Rattle.dshot_bank_spec.specs.Service.{ServiceEvent}
 use Rattle.dshot_bank_spec.specs.Service as Service
@@ -38,16 +39,29 @@ interruptEvent Interrupt.completed = 0
 interruptEvent Interrupt.faulted = 1
 interruptEvent Interrupt.spurious = 2
 
+-- the number of a service's order. One to exchange also tells which buffer the lane is given: 4 more for the second, which is its spare where it
+-- sends from the first
+abbrev pub codeGiven : List Bool → Order → ℕ
+codeGiven inSecond (exchange-buffer m) = code (exchange-buffer m) + 4 * bit (not (getD inSecond m false))
+codeGiven inSecond (start-dma m) = code (start-dma m)
+codeGiven inSecond (start-frame d) = code (start-frame d)
+codeGiven inSecond stop-frame = code stop-frame
+codeGiven inSecond force-outputs-low = code force-outputs-low
+codeGiven inSecond (pause-and-clear m) = code (pause-and-clear m)
+codeGiven inSecond begin-receive = code begin-receive
+codeGiven inSecond end-receive = code end-receive
+
 -- the numbers of some orders, and zeros up to n
-abbrev pub codes : ℕ → List Order → List ℕ
-codes n l = map code l ++ replicate (n - length l) 0
+abbrev pub codes : ℕ → (Order → ℕ) → List Order → List ℕ
+codes n number l = map number l ++ replicate (n - length l) 0
 
 -- the event, how many orders, and each; then the first duties
-abbrev pub serviceSlots : ServiceEvent → List Order → List ℕ
-serviceSlots e l = serviceEvent e ∷ length l ∷ (codes 9 l ++ dutiesIn l)
+abbrev pub serviceSlots : ServiceEvent → List Order → List Bool → List ℕ
+serviceSlots e l inSecond = serviceEvent e ∷ length l ∷ (codes 9 (codeGiven inSecond) l ++ dutiesIn l)
 
+-- an interrupt exchanges no buffer
 abbrev pub interruptSlots : InterruptEvent → List Order → List ℕ
-interruptSlots e l = interruptEvent e ∷ length l ∷ codes 7 l
+interruptSlots e l = interruptEvent e ∷ length l ∷ codes 7 code l
 
 -- ---- the other answers
 
@@ -93,7 +107,7 @@ abbrev pub slotsOf : Answer → List ℕ
 slotsOf done = []
 slotsOf (Call.refused n) = []
 slotsOf (motor-sent m) = motorSlots m
-slotsOf (serviced e l) = serviceSlots e l
+slotsOf (serviced e l inSecond) = serviceSlots e l inSecond
 slotsOf (interrupted e l) = interruptSlots e l
 slotsOf (replied r) = repliesSlots r
 slotsOf (Call.flag b) = bit b ∷ []

@@ -31,7 +31,7 @@ abbrev pub Tells : ℕ → Answer → ℕ → Type 0
 Tells lane done i = ⊥
 Tells lane (refused number) i = ⊥
 Tells lane (motor-sent m) i = ⊥
-Tells lane (serviced e o) i = ⊥
+Tells lane (serviced e o s) i = ⊥
 Tells lane (interrupted e o) i = ⊥
 Tells lane (replied r) i = Within (1 + 4 * lane) 4 i
 Tells lane (flag b) i = ⊥

@@ -218,7 +218,7 @@ numberOf : Answer → ℕ
 numberOf done = 0
 numberOf (refused number) = number
 numberOf (motor-sent m) = 0
-numberOf (serviced e o) = 0
+numberOf (serviced e o s) = 0
 numberOf (interrupted e o) = 0
 numberOf (replied r) = 0
 numberOf (flag b) = 0

@@ -99,7 +99,7 @@ abbrev pub ordersIn : Answer → List Spec.Order
 ordersIn done = []
 ordersIn (refused number) = []
 ordersIn (motor-sent m) = []
-ordersIn (serviced e o) = o
+ordersIn (serviced e o s) = o
 ordersIn (interrupted e o) = o
 ordersIn (replied r) = []
 ordersIn (flag b) = []

@@ -20,7 +20,7 @@ abbrev pub shown : Answer → List ℕ
 shown done = []
 shown (refused number) = []
 shown (motor-sent m) = []
-shown (serviced e o) = []
+shown (serviced e o s) = []
 shown (interrupted e o) = []
 shown (replied r) = []
 shown (flag b) = []

@@ -134,8 +134,8 @@ module _ (n lane : ℕ) (s s′ : State) (e : hideState lane s ≡ hideState lan
       let r = s .bank .replies in
       let r′ = s′ .bank .replies in (
         λ j. lengthRefusal (pick (buffersFit n (e j .buffers)) (eqb (el j) (160 * n)) false) 0,
-        ap servedStep (service-alike n lane now taken p m m′ x x′ r r′ (s .buffers) old ew em (s .bank .core))
-            ∙ ap (λ (z : State). hide lane (servedStep (serviceCore n now taken p m′ x′ r′ (z .buffers) (z .bank .core)))) e,
+        ap (servedStep s) (service-alike n lane now taken p m m′ x x′ r r′ (s .buffers) old ew em (s .bank .core))
+            ∙ ap (λ (z : State). hide lane (servedStep z (serviceCore n now taken p m′ x′ r′ (z .buffers) (z .bank .core)))) e,
       )
 
   -- a list of the lanes' fields, with the lane hidden

@@ -27,7 +27,7 @@ use Rattle.dshot_bank_spec.specs.Commands.{clearRequestSent, nextCommand
 use Rattle.dshot_bank_spec.specs.FrameSet.{nextSet, kindSent, packetsSent, firstDuties, encodeLanes}
 use Rattle.dshot_bank_spec.specs.Send.{turnMarks, Sent, exchangeRefused, frameStarted, exchangeBuffers, sendRequested, sentBuffers}
 use Rattle.dshot_bank_spec.specs.Service.{Served, Skipped, skipped, unsent, faulted, serviceBusy, demandExpired, repliesRead, readReplies, serviceCore}
-use Rattle.dshot_bank_spec.specs.Calls.{service-call, sending, serviced, slots, State, Stepped, told, servedStep, sequenceSent}
+use Rattle.dshot_bank_spec.specs.Calls.{service-call, sending, serviced, slots, State, Stepped, told, sequenceSent}
 use Rattle.dshot_bank_spec.specs.Steps.{buffersFit, lengthRefusal, laneRefusal, portRefusal, refuseOr, step}
 use Rattle.dshot_bank_spec.specs.Lists.{isRefused}
 use Rattle.dshot_bank_spec.specs.SentClaim.{sendingCore, ReadsBack, SentReadsBack}
@@ -200,12 +200,12 @@ module _ (n now : ℕ) (taken present : List Bool) (masks samples : List ℕ) (r
   decoded = readReplies n (leasedCore n now c .frame .repliesWaiting) present masks samples replies
 
   sent-state : c .frame .faulted ≡ false → c .frame .busy ≡ false → ltb (position not taken) n ≡ false
-      → sentState n now (sendingCore n now c) b decoded ≡ servedStep (serviceCore n now taken present masks samples replies b c) .state
+      → sentState n now (sendingCore n now c) b decoded ≡ record { bank = serviceCore n now taken present masks samples replies b c .bank; buffers = serviceCore n now taken present masks samples replies b c .buffers }
   unfolding sendRequested exchangeBuffers
   sent-state f i k =
       let sent = sentBuffers n (sendingCore n now c) b in
       ap (λ (t : Sent). record { bank = record { core = t .core; replies = decoded }; buffers = sent }) (off _ _ k refl)
-      ∙ ap (λ (z : Served). servedStep z .state) (service-sends n now taken present masks samples replies b c f i)
+      ∙ ap (λ (z : Served). record { bank = z .bank; buffers = z .buffers }) (service-sends n now taken present masks samples replies b c f i)
 
 -- ---- the claim
 
@@ -244,13 +244,13 @@ started-reads n s now replies lane f ne l =
     }
 
 pub sent-reads-back : SentReadsBack
-sent-reads-back n s now taken present masks samples e orders duties h ne lane l =
+sent-reads-back n s now taken present masks samples e orders inSecond duties h ne lane l =
     let c = s .bank .core in
     let call = service-call now taken present masks samples in
     let accepted : isRefused (step n s call .answer) ≡ false = ap isRefused h in
     let acts = accepted-acts n s call accepted in
     let z = serviceCore n now taken present masks samples (s .bank .replies) (s .buffers) c in
-    let same : serviced (z .event) (z .orders) ≡ serviced e (orders ++ (start-frame duties ∷ [])) = sym (ap (λ (r : Stepped). r .answer) acts) ∙ h in
+    let same : serviced (z .event) (z .orders) (c .frame .inSecond) ≡ serviced e (orders ++ (start-frame duties ∷ [])) inSecond = sym (ap (λ (r : Stepped). r .answer) acts) ∙ h in
     let ends : z .orders ≡ orders ++ (start-frame duties ∷ []) = cc same in
     let t = sent-tests n now taken present masks samples (s .bank .replies) (s .buffers) c
     (ap (lastDuties none) ends ∙ last-append none orders (start-frame duties ∷ [])) in

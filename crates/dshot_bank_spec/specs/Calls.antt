@@ -52,7 +52,7 @@ pub data Answer : Type 0 where
   done : Answer
   refused : (number : ℕ) → Answer
   motor-sent : Option ℕ → Answer
-  serviced : ServiceEvent → List Order → Answer
+  serviced : (event : ServiceEvent) (orders : List Order) (inSecond : List Bool) → Answer
   interrupted : InterruptEvent → List Order → Answer
   replied : Option (List (Reply.Answer Reading)) → Answer
   flag : Bool → Answer
@@ -104,8 +104,9 @@ abbrev pub commanded : State → Reply.Answer Core → Stepped
 commanded s (given c) = changed s done c
 commanded s (Reply.refused k) = told s (refused k)
 
-abbrev pub servedStep : Served → Stepped
-servedStep r = record { answer = serviced (r .event) (r .orders); state = record { bank = r .bank; buffers = r .buffers } }
+-- the marks before the call stand beside the orders: the buffer that the source hands to `exchange_buffer` is the lane's spare, which they tell
+abbrev pub servedStep : State → Served → Stepped
+servedStep s r = record { answer = serviced (r .event) (r .orders) (s .bank .core .frame .inSecond); state = record { bank = r .bank; buffers = r .buffers } }
 
 abbrev pub interruptedStep : State → Interrupted → Stepped
 interruptedStep s r = changed s (interrupted (r .event) (r .orders)) (r .core)
@@ -119,7 +120,7 @@ act n s (command-special motor sequence) = commanded s (commandSpecial motor seq
 act n s (request-telemetry motor) = commanded s (requestTelemetry motor (s .bank .core))
 act n s cancel-telemetry-request = changed s done (cancelTelemetryRequest (s .bank .core))
 act n s take-telemetry-request-sent = changed s (motor-sent (s .bank .core .telemetry .requestSent)) (clearRequestSent (s .bank .core))
-act n s (service-call now taken present masks samples) = servedStep (service n now taken present masks samples (s .bank) (s .buffers))
+act n s (service-call now taken present masks samples) = servedStep s (service n now taken present masks samples (s .bank) (s .buffers))
 act n s (on-dma-interrupt motor complete error turned back) = interruptedStep s (onDmaInterrupt n motor complete error turned back (s .bank .core))
 act n s take-replies = changed s (replied (if s .bank .core .frame .repliesHeld then some (repliesOf (s .bank .replies)) else none)) (repliesTaken (s .bank .core))
 act n s is-bidirectional = told s (flag (s .bank .core .frame .bidirectional))

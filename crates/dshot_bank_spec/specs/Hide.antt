@@ -36,7 +36,7 @@ abbrev pub hideAnswer : ℕ → Answer → Answer
 hideAnswer lane done = done
 hideAnswer lane (refused number) = refused number
 hideAnswer lane (motor-sent m) = motor-sent m
-hideAnswer lane (serviced e o) = serviced e o
+hideAnswer lane (serviced e o s) = serviced e o s
 hideAnswer lane (interrupted e o) = interrupted e o
 hideAnswer lane (replied r) = replied (hideTaken lane r)
 hideAnswer lane (flag b) = flag b

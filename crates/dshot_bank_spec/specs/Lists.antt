@@ -72,7 +72,7 @@ abbrev pub isRefused : Answer → Bool
 isRefused done = false
 isRefused (refused number) = true
 isRefused (motor-sent m) = false
-isRefused (serviced e o) = false
+isRefused (serviced e o s) = false
 isRefused (interrupted e o) = false
 isRefused (replied r) = false
 isRefused (flag b) = false

@@ -35,8 +35,8 @@ module _ (n : ℕ) (s after : State) (now : ℕ) (firstDuties : List ℕ) (lane 
 
 -- of each service that orders a frame to start, where the timing's high times differ
 abbrev pub SentReadsBack : Type 0
-SentReadsBack = (n : ℕ) (s : State) (now : ℕ) (taken present : List Bool) (masks samples : List ℕ) (e : ServiceEvent) (orders : List Order) (firstDuties : List ℕ)
-    → step n s (service-call now taken present masks samples) .answer ≡ serviced e (orders ++ (start-frame firstDuties ∷ []))
+SentReadsBack = (n : ℕ) (s : State) (now : ℕ) (taken present : List Bool) (masks samples : List ℕ) (e : ServiceEvent) (orders : List Order) (inSecond : List Bool) (firstDuties : List ℕ)
+    → step n s (service-call now taken present masks samples) .answer ≡ serviced e (orders ++ (start-frame firstDuties ∷ [])) inSecond
     → (s .bank .core .timing .zeroHigh ≡ s .bank .core .timing .oneHigh → ⊥)
     → (lane : ℕ) → lane < n
     → ReadsBack n s (step n s (service-call now taken present masks samples) .state) now firstDuties lane
