@@ -19,17 +19,18 @@ use crate::memory::joined_long;
 use crate::memory::long_at;
 use crate::memory::put_long;
 use crate::memory::zero;
+use crate::numbers::REFUSED;
 use crate::steps::clear_request;
 use crate::steps::clear_sent;
 use crate::steps::put_run;
+use crate::steps::run_from;
 use crate::steps::stop;
-use dshot::DshotCommandSequence;
-use dshot::at_most;
 use dshot_bank::DSHOT_COMMAND_MAX;
 use dshot_bank::LANES;
 use dshot_reply::refusals::BANK_FAULTED;
 use dshot_reply::refusals::COMMAND_PENDING;
 use dshot_reply::refusals::MOTORS_RUNNING;
+use dshot_reply::refusals::NO_REPLY;
 use dshot_reply::refusals::NO_SUCH_MOTOR;
 use dshot_reply::refusals::REPLIES_UNSUPPORTED;
 use dshot_reply::refusals::TELEMETRY_PENDING;
@@ -57,7 +58,7 @@ ghost use Rattle.bank_slots_spec.specs.Arguments.{runGiven};
 ghost use Rattle.bank_slots_spec.specs.Parts.{demanded, queued};
 
 // The stored reply of a lane of which no window has been read.
-const NO_REPLY: u16 = 7;
+const STORED_NO_REPLY: u16 = REFUSED + NO_REPLY as u16;
 
 // ---- a new bank
 
@@ -77,10 +78,10 @@ pub fn from_lanes(timing: &[u16], bank: &mut [u16]) -> u32
     bank[1] = timing[1];
     bank[2] = timing[2];
     bank[3] = timing[3];
-    bank[REPLIES] = NO_REPLY;
-    bank[REPLIES + 9] = NO_REPLY;
-    bank[REPLIES + 18] = NO_REPLY;
-    bank[REPLIES + 27] = NO_REPLY;
+    bank[REPLIES] = STORED_NO_REPLY;
+    bank[REPLIES + 9] = STORED_NO_REPLY;
+    bank[REPLIES + 18] = STORED_NO_REPLY;
+    bank[REPLIES + 27] = STORED_NO_REPLY;
     0
 }
 
@@ -181,17 +182,11 @@ fn is_running(bank: &[u16]) -> bool
     any_above(&bank[VALUES..VALUES + LANES], 0)
 }
 
-// An index above 255 is spent, as 255 is, and of the last slot the low eight bits count.
 fn queue(bank: &mut [u16], motor: usize, sequence: &[u16])
     requires { ⌜ (length (now bank) ≡ slots) × (length (now sequence) ≡ 4) × (motor < 4) ⌝ }
     ensures { λ r. ⌜ Moves (onCore (queued motor (runGiven (now (sequence .entry))))) (now (bank .entry)) (now (bank .exit)) ⌝ }
 {
-    let run = DshotCommandSequence {
-        commands: [sequence[0], sequence[1]],
-        index: at_most(sequence[2], 255) as u8,
-        repeats_left: (sequence[3] % 256) as u8,
-    };
-    put_run(bank, motor, run);
+    put_run(bank, motor, run_from(sequence, 0));
 }
 
 // Queues a run of special-command frames for one motor, such as a spin direction change and save: the run in four slots.

@@ -20,7 +20,6 @@ use crate::memory::bit;
 use crate::memory::flag;
 use crate::memory::put_word;
 use crate::memory::word_at;
-use crate::memory::zero;
 use dshot::COMPARE_DMA_SLOTS;
 use dshot_bank::LANES;
 use dshot_bank::looks::buffers_fit;
@@ -35,8 +34,8 @@ ghost use mathlib.Core.Path.{_≡_};
 ghost use mathlib.Core.List.{[], _∷_};
 ghost use Prim.Native.Nat.{_+_, _<_};
 ghost use lib.ListN.{length};
-ghost use Rattle.dshot_reply_spec.specs.Answer.{pick};
-ghost use Rattle.dshot_reply_spec.specs.Refusals.{wrongLength};
+ghost use Rattle.dshot_reply_spec.specs.Answer.{pick, refused, if_then_else_};
+ghost use Rattle.dshot_reply_spec.specs.Refusals.{noReply, wrongLength};
 ghost use Rattle.dshot_reply.specs.Answers.{replyAnswer};
 ghost use Rattle.dshot_bank_spec.specs.State.{Buffers};
 ghost use Rattle.dshot_bank_spec.specs.Calls as Call;
@@ -181,15 +180,24 @@ fn stored(kind: u16, number: u32) -> ReplyRead
         2 => ReplyRead::Reply(DshotReply::Voltage { quarter_volts: low }),
         3 => ReplyRead::Reply(DshotReply::Current { amps: low }),
         4 => ReplyRead::Reply(DshotReply::Debug {
-            channel: (number / 256 % 256) as u8,
+            channel: 1,
             value: low,
         }),
-        5 => ReplyRead::Reply(DshotReply::StateEvent { value: low }),
-        6 => ReplyRead::Reply(DshotReply::ExtendedTelemetryEnabled),
-        8 => ReplyRead::Refused(DshotReplyError::Overlong),
-        9 => ReplyRead::Refused(DshotReplyError::InvalidSymbol),
-        10 => ReplyRead::Refused(DshotReplyError::Checksum),
-        11 => ReplyRead::Refused(DshotReplyError::ZeroPeriod),
+        5 => ReplyRead::Reply(DshotReply::Debug {
+            channel: 2,
+            value: low,
+        }),
+        6 => ReplyRead::Reply(DshotReply::Debug {
+            channel: 3,
+            value: low,
+        }),
+        7 => ReplyRead::Reply(DshotReply::StateEvent { value: low }),
+        8 => ReplyRead::Reply(DshotReply::ExtendedTelemetryEnabled),
+        // A refusal is 16 and its number.
+        24 => ReplyRead::Refused(DshotReplyError::Overlong),
+        25 => ReplyRead::Refused(DshotReplyError::InvalidSymbol),
+        26 => ReplyRead::Refused(DshotReplyError::Checksum),
+        27 => ReplyRead::Refused(DshotReplyError::ZeroPeriod),
         _ => ReplyRead::Refused(DshotReplyError::NoReply),
     }
 }
@@ -214,14 +222,19 @@ fn put_reply(out: &mut [u16], k: usize, read: ReplyRead)
     }
 }
 
-fn put_lane(bank: &[u16], from: usize, out: &mut [u16], to: usize)
+// What is handed out of the lane whose slots begin at `from`: no reply where none are held, so that none reads as a rotor at rest.
+fn put_lane(bank: &[u16], held: bool, from: usize, out: &mut [u16], to: usize)
     requires { ⌜ (from + 2 < length (now bank)) × (to + 3 < length (now out)) ⌝ }
-    ensures { λ r. ⌜ now (out .exit) ≡ write (slotRows to (replySlots (reply (at (now (bank .entry)) from) (word (from + 1) (at (now (bank .entry))))))) (now (out .entry)) ⌝ }
+    ensures { λ r. ⌜ now (out .exit) ≡ write (slotRows to (replySlots (if held then reply (at (now (bank .entry)) from) (word (from + 1) (at (now (bank .entry)))) else refused noReply))) (now (out .entry)) ⌝ }
 {
-    put_reply(out, to, stored(bank[from], word_at(bank, from + 1)));
+    if held {
+        put_reply(out, to, stored(bank[from], word_at(bank, from + 1)));
+        return;
+    }
+    put_reply(out, to, ReplyRead::Refused(DshotReplyError::NoReply));
 }
 
-// The replies decoded since the last call, once: 1 and four slots a lane, or zeros where there are none.
+// The replies decoded since the last call, once: whether some are held, and four slots a lane.
 pub fn take_replies(bank: &mut [u16], out: &mut [u16]) -> u32
     ensures { λ r. ⌜ ((b : Buffers) → Called (fit (now (bank .entry)) (sized 17 (now (out .entry)))) Call.take-replies b (now (bank .entry)) (now (bank .exit)) r) ⌝ }
     ensures { λ r. ⌜ ((b : Buffers) → now (out .exit) ≡ outAfter (answerOf (fit (now (bank .entry)) (sized 17 (now (out .entry)))) (stateAt (now (bank .entry)) b) Call.take-replies) (now (out .entry))) ⌝ }
@@ -232,15 +245,12 @@ pub fn take_replies(bank: &mut [u16], out: &mut [u16]) -> u32
     if out.len() != REPLIES_SLOTS {
         return WRONG_LENGTH;
     }
-    if !flag(bank[REPLIES_HELD]) {
-        zero(out);
-        return 0;
-    }
-    out[0] = 1;
-    put_lane(bank, REPLIES, out, 1);
-    put_lane(bank, REPLIES + 9, out, 5);
-    put_lane(bank, REPLIES + 18, out, 9);
-    put_lane(bank, REPLIES + 27, out, 13);
+    let held = flag(bank[REPLIES_HELD]);
+    out[0] = bit(held);
+    put_lane(bank, held, REPLIES, out, 1);
+    put_lane(bank, held, REPLIES + 9, out, 5);
+    put_lane(bank, held, REPLIES + 18, out, 9);
+    put_lane(bank, held, REPLIES + 27, out, 13);
     bank[REPLIES_HELD] = 0;
     0
 }

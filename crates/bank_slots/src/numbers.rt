@@ -1,4 +1,7 @@
-// Added: the numbers of events and orders in an answer's slots.
+// Added: the numbers of events and orders in an answer's slots, and of stored refusals.
+
+ghost use mathlib.Core.Path.{_≡_};
+ghost use mathlib.Core.List.{[], _∷_};
 
 // The events of a service.
 pub(crate) const FRAME_STARTED: u16 = 0;
@@ -16,8 +19,14 @@ pub(crate) const INTERRUPT_FAULT: u16 = 1;
 
 pub(crate) const SPURIOUS_EVENT: u16 = 2;
 
+// A stored refusal is a kind above those of readings: this and its number.
+pub(crate) const REFUSED: u16 = 16;
+
 // The orders: eight times the number of the kind, to which a lane is added where the order is for one.
 pub(crate) const EXCHANGE_BUFFER: u16 = 8 * 1;
+
+// Added to an order to exchange that gives the lane the second buffer.
+pub(crate) const SECOND: u16 = 4;
 
 pub(crate) const START_DMA: u16 = 8 * 2;
 
@@ -50,65 +59,67 @@ pub(crate) const LATCH_ORDERS: [u16; 9] = [
     0,
 ];
 
-// The orders of a frame set that starts: every buffer exchanged, every stream enabled, and the timers. All DMA streams are enabled before any
-// timer DMA request is opened.
-pub(crate) const START_ORDERS: [u16; 9] = [
-    EXCHANGE_BUFFER,
-    EXCHANGE_BUFFER + 1,
-    EXCHANGE_BUFFER + 2,
-    EXCHANGE_BUFFER + 3,
-    START_DMA,
-    START_DMA + 1,
-    START_DMA + 2,
-    START_DMA + 3,
-    START_FRAME,
-];
-
 // Those of an exchange that is refused at a lane: the exchanges up to it, the outputs low, and every stream paused.
-pub(crate) const REFUSED_BY_0: [u16; 9] = [
-    EXCHANGE_BUFFER,
-    FORCE_OUTPUTS_LOW,
-    PAUSE_AND_CLEAR,
-    PAUSE_AND_CLEAR + 1,
-    PAUSE_AND_CLEAR + 2,
-    PAUSE_AND_CLEAR + 3,
-    0,
-    0,
-    0,
-];
+pub(crate) fn refused_by_0(a: u16) -> [u16; 9]
+    ensures { λ r. ⌜ r ≡ a ∷ 40 ∷ 48 ∷ 49 ∷ 50 ∷ 51 ∷ 0 ∷ 0 ∷ 0 ∷ [] ⌝ }
+{
+    [
+        a,
+        FORCE_OUTPUTS_LOW,
+        PAUSE_AND_CLEAR,
+        PAUSE_AND_CLEAR + 1,
+        PAUSE_AND_CLEAR + 2,
+        PAUSE_AND_CLEAR + 3,
+        0,
+        0,
+        0,
+    ]
+}
 
-pub(crate) const REFUSED_BY_1: [u16; 9] = [
-    EXCHANGE_BUFFER,
-    EXCHANGE_BUFFER + 1,
-    FORCE_OUTPUTS_LOW,
-    PAUSE_AND_CLEAR,
-    PAUSE_AND_CLEAR + 1,
-    PAUSE_AND_CLEAR + 2,
-    PAUSE_AND_CLEAR + 3,
-    0,
-    0,
-];
+pub(crate) fn refused_by_1(a: u16, b: u16) -> [u16; 9]
+    ensures { λ r. ⌜ r ≡ a ∷ b ∷ 40 ∷ 48 ∷ 49 ∷ 50 ∷ 51 ∷ 0 ∷ 0 ∷ [] ⌝ }
+{
+    [
+        a,
+        b,
+        FORCE_OUTPUTS_LOW,
+        PAUSE_AND_CLEAR,
+        PAUSE_AND_CLEAR + 1,
+        PAUSE_AND_CLEAR + 2,
+        PAUSE_AND_CLEAR + 3,
+        0,
+        0,
+    ]
+}
 
-pub(crate) const REFUSED_BY_2: [u16; 9] = [
-    EXCHANGE_BUFFER,
-    EXCHANGE_BUFFER + 1,
-    EXCHANGE_BUFFER + 2,
-    FORCE_OUTPUTS_LOW,
-    PAUSE_AND_CLEAR,
-    PAUSE_AND_CLEAR + 1,
-    PAUSE_AND_CLEAR + 2,
-    PAUSE_AND_CLEAR + 3,
-    0,
-];
+pub(crate) fn refused_by_2(a: u16, b: u16, c: u16) -> [u16; 9]
+    ensures { λ r. ⌜ r ≡ a ∷ b ∷ c ∷ 40 ∷ 48 ∷ 49 ∷ 50 ∷ 51 ∷ 0 ∷ [] ⌝ }
+{
+    [
+        a,
+        b,
+        c,
+        FORCE_OUTPUTS_LOW,
+        PAUSE_AND_CLEAR,
+        PAUSE_AND_CLEAR + 1,
+        PAUSE_AND_CLEAR + 2,
+        PAUSE_AND_CLEAR + 3,
+        0,
+    ]
+}
 
-pub(crate) const REFUSED_BY_3: [u16; 9] = [
-    EXCHANGE_BUFFER,
-    EXCHANGE_BUFFER + 1,
-    EXCHANGE_BUFFER + 2,
-    EXCHANGE_BUFFER + 3,
-    FORCE_OUTPUTS_LOW,
-    PAUSE_AND_CLEAR,
-    PAUSE_AND_CLEAR + 1,
-    PAUSE_AND_CLEAR + 2,
-    PAUSE_AND_CLEAR + 3,
-];
+pub(crate) fn refused_by_3(a: u16, b: u16, c: u16, d: u16) -> [u16; 9]
+    ensures { λ r. ⌜ r ≡ a ∷ b ∷ c ∷ d ∷ 40 ∷ 48 ∷ 49 ∷ 50 ∷ 51 ∷ [] ⌝ }
+{
+    [
+        a,
+        b,
+        c,
+        d,
+        FORCE_OUTPUTS_LOW,
+        PAUSE_AND_CLEAR,
+        PAUSE_AND_CLEAR + 1,
+        PAUSE_AND_CLEAR + 2,
+        PAUSE_AND_CLEAR + 3,
+    ]
+}

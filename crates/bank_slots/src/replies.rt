@@ -10,18 +10,20 @@ use crate::REPLIES_WAITING;
 use crate::memory::flag;
 use crate::memory::put_word;
 use crate::memory::word_at;
+use crate::numbers::REFUSED;
 use dshot_bank::LaneReply;
 use dshot_bank::StoredReply;
 use dshot_reply::DshotReplyError;
 use dshot_reply::REPLY_WINDOW_SAMPLES;
 use dshot_reply::ReplyRead;
+use dshot_reply::kind::kind_number;
+use dshot_reply::kind::reading_number;
 ghost use mathlib.Core.Path.{_≡_};
 ghost use Prim.Native.Nat.{_+_, _*_, _<_};
 ghost use lib.ListN.{length, getD};
 ghost use Rattle.dshot_reply.specs.Answers.{replyAnswer};
 ghost use Rattle.dshot_bank_spec.specs.State.{Bank};
 ghost use Rattle.dshot_bank_spec.specs.Replies.{window, readWindow, countReply, decodeReplies};
-ghost use Rattle.dshot_bank.specs.States.{storedAnswer, laneReplyOf};
 ghost use Rattle.bank_slots_spec.specs.Memory.{at, write};
 ghost use Rattle.bank_slots_spec.specs.Places.{slots};
 ghost use Rattle.bank_slots_spec.specs.Store.{replyKind, replyNumber, laneRows};
@@ -31,63 +33,42 @@ ghost use Rattle.bank_slots_spec.specs.Arguments.{present, masks};
 ghost use Rattle.bank_slots_spec.specs.Load.{laneFrom};
 ghost use Rattle.bank_slots_spec.specs.Parts.{withReplies, windowsRead};
 
-// The kind of a stored reply: 0 to 6 are readings, and a refusal has its number.
-fn stored_kind(reply: StoredReply) -> u16
-    ensures { λ r. ⌜ r ≡ replyKind (storedAnswer reply) ⌝ }
+// The kind under which a reply is stored: that of its reading, or one of a refusal.
+fn stored_kind(read: ReplyRead) -> u16
+    ensures { λ r. ⌜ r ≡ replyKind (replyAnswer read) ⌝ }
 {
-    match reply {
-        StoredReply::Erpm(_) => 0,
-        StoredReply::Temperature(_) => 1,
-        StoredReply::Voltage(_) => 2,
-        StoredReply::Current(_) => 3,
-        StoredReply::Debug(_, _) => 4,
-        StoredReply::StateEvent(_) => 5,
-        StoredReply::ExtendedTelemetryEnabled => 6,
-        StoredReply::NoReply => 7,
-        StoredReply::Overlong => 8,
-        StoredReply::InvalidSymbol => 9,
-        StoredReply::Checksum => 10,
-        StoredReply::ZeroPeriod => 11,
+    match read {
+        ReplyRead::Reply(reply) => kind_number(reply),
+        ReplyRead::Refused(error) => REFUSED + dshot_reply::error_number(error) as u16,
     }
 }
 
-// Its number: a debug value has its channel above it.
-fn stored_number(reply: StoredReply) -> u32
-    ensures { λ r. ⌜ r ≡ replyNumber (storedAnswer reply) ⌝ }
+// Its number.
+fn stored_number(read: ReplyRead) -> u32
+    ensures { λ r. ⌜ r ≡ replyNumber (replyAnswer read) ⌝ }
 {
-    match reply {
-        StoredReply::Erpm(n) => n,
-        StoredReply::Temperature(n) => n as u32,
-        StoredReply::Voltage(n) => n as u32,
-        StoredReply::Current(n) => n as u32,
-        StoredReply::Debug(channel, n) => 256 * (channel as u32) + n as u32,
-        StoredReply::StateEvent(n) => n as u32,
-        StoredReply::ExtendedTelemetryEnabled => 0,
-        StoredReply::NoReply => 0,
-        StoredReply::Overlong => 0,
-        StoredReply::InvalidSymbol => 0,
-        StoredReply::Checksum => 0,
-        StoredReply::ZeroPeriod => 0,
+    match read {
+        ReplyRead::Reply(reply) => reading_number(reply),
+        ReplyRead::Refused(_) => 0,
     }
 }
 
-// A lane's record into the nine slots from `k`.
-fn put_lane(state: &mut [u16], k: usize, lane: LaneReply)
+// A lane's reply and its counts into the nine slots from `k`.
+fn put_lane(state: &mut [u16], k: usize, read: ReplyRead, counted: LaneReply)
     requires { ⌜ k + 8 < length (now state) ⌝ }
-    ensures { λ r. ⌜ now (state .exit) ≡ write (laneRows k (laneReplyOf lane)) (now (state .entry)) ⌝ }
+    ensures { λ r. ⌜ now (state .exit) ≡ write (laneRows k (record { reply = replyAnswer read; valid = counted .valid; invalid = counted .invalid; consecutiveInvalid = counted .«consecutive_invalid» })) (now (state .entry)) ⌝ }
 {
-    let reply = lane.reply;
-    state[k] = stored_kind(reply);
-    put_word(state, k + 1, stored_number(reply));
-    put_word(state, k + 3, lane.valid);
-    put_word(state, k + 5, lane.invalid);
-    put_word(state, k + 7, lane.consecutive_invalid);
+    state[k] = stored_kind(read);
+    put_word(state, k + 1, stored_number(read));
+    put_word(state, k + 3, counted.valid);
+    put_word(state, k + 5, counted.invalid);
+    put_word(state, k + 7, counted.consecutive_invalid);
 }
 
 // Counts a reply of the lane whose slots begin at `k`. What was stored before is not looked at.
-fn count_reply(state: &mut [u16], k: usize, reply: ReplyRead)
+fn count_reply(state: &mut [u16], k: usize, read: ReplyRead)
     requires { ⌜ k + 8 < length (now state) ⌝ }
-    ensures { λ r. ⌜ now (state .exit) ≡ write (laneRows k (countReply (replyAnswer reply) (laneFrom k (at (now (state .entry)))))) (now (state .entry)) ⌝ }
+    ensures { λ r. ⌜ now (state .exit) ≡ write (laneRows k (countReply (replyAnswer read) (laneFrom k (at (now (state .entry)))))) (now (state .entry)) ⌝ }
 {
     let before = LaneReply {
         reply: StoredReply::NoReply,
@@ -95,7 +76,7 @@ fn count_reply(state: &mut [u16], k: usize, reply: ReplyRead)
         invalid: word_at(state, k + 5),
         consecutive_invalid: word_at(state, k + 7),
     };
-    put_lane(state, k, before.counting(StoredReply::of(reply)));
+    put_lane(state, k, read, before.counting(StoredReply::of(read)));
 }
 
 // Reads and counts the window of a lane whose slots begin at `k`. Extended telemetry is not enabled yet, so every value but its acknowledgement is

@@ -20,20 +20,23 @@ use crate::memory::bump;
 use crate::memory::flag;
 use crate::memory::put_long;
 use crate::memory::put_word;
+use crate::numbers::EXCHANGE_BUFFER;
 use crate::numbers::FAULT;
 use crate::numbers::FRAME_STARTED;
 use crate::numbers::LEASE_EXPIRED;
-use crate::numbers::REFUSED_BY_0;
-use crate::numbers::REFUSED_BY_1;
-use crate::numbers::REFUSED_BY_2;
-use crate::numbers::REFUSED_BY_3;
-use crate::numbers::START_ORDERS;
+use crate::numbers::SECOND;
+use crate::numbers::START_DMA;
+use crate::numbers::START_FRAME;
+use crate::numbers::refused_by_0;
+use crate::numbers::refused_by_1;
+use crate::numbers::refused_by_2;
+use crate::numbers::refused_by_3;
 use crate::steps::clear_run;
 use crate::steps::latch_fault;
 use crate::steps::put_run;
+use crate::steps::run_from;
 use dshot::ChecksumKind;
 use dshot::CommandValue;
-use dshot::DshotCommandSequence;
 use dshot::DshotTiming;
 use dshot::MotorValues;
 use dshot::TelemetryLane;
@@ -50,7 +53,7 @@ ghost use Rattle.dshot_reply_spec.specs.Answer.{pick};
 ghost use Rattle.dshot.specs.Answers.{kindOf, laneOf, timingOf};
 ghost use Rattle.dshot_bank_spec.specs.Lanes.{position};
 ghost use Rattle.dshot_bank_spec.specs.State.{Core, Bank, Buffers};
-ghost use Rattle.dshot_bank_spec.specs.Order.{refusedOrders};
+ghost use Rattle.dshot_bank_spec.specs.Order.{startOrders, refusedOrders};
 ghost use Rattle.dshot_bank_spec.specs.Commands.{nextOfRun, nextCommandFrame};
 ghost use Rattle.dshot_bank_spec.specs.With.{withCommandSequence};
 ghost use Rattle.dshot_bank_spec.specs.FrameSet.{kindSent, asLane};
@@ -64,7 +67,7 @@ ghost use Rattle.bank_slots_spec.specs.Load as Load;
 ghost use Rattle.bank_slots_spec.specs.Store as Store;
 ghost use Rattle.bank_slots_spec.specs.Moves.{Moves, onCore};
 ghost use Rattle.bank_slots_spec.specs.Handles.{Serves};
-ghost use Rattle.bank_slots_spec.specs.Outs.{codes};
+ghost use Rattle.bank_slots_spec.specs.Outs.{codeGiven, codes};
 ghost use Rattle.bank_slots_spec.specs.Arguments.{taken};
 ghost use Rattle.bank_slots_spec.specs.Parts.{runStepped, marksTurned, carriedBy, requestCarried, inFlight};
 ghost use Rattle.bank_slots.specs.Frames.{motorCommandOf, OnLane, Sets};
@@ -92,12 +95,7 @@ fn step_run(state: &mut [u16]) -> FrameCommand
     ensures { λ r. ⌜ Moves (onCore (λ (c : Core). withCommandSequence (nextOfRun (c .commandSequence) .left) c)) (now (state .entry)) (now (state .exit)) ⌝ }
 {
     let motor = ((state[RUN] - 1) % 4) as usize;
-    let run = DshotCommandSequence {
-        commands: [state[RUN + 1], state[RUN + 2]],
-        index: (state[RUN + 3] % 256) as u8,
-        repeats_left: (state[RUN + 4] % 256) as u8,
-    };
-    let next = run.next_value();
+    let next = run_from(state, RUN + 1).next_value();
     let left = next.sequence;
     let value = next.value;
     match value {
@@ -271,17 +269,50 @@ fn exchange_refused(state: &mut [u16], lane: usize)
     latch_fault(state, false);
 }
 
-// The orders of an exchange that is refused at a lane: the exchanges up to it, the outputs low, and every stream paused.
-fn refused_orders(lane: usize) -> [u16; 9]
+// The order to give a lane its spare: the second buffer, where it is sending from the first.
+fn exchange(lane: u16, in_second: bool) -> u16
     requires { ⌜ lane < 4 ⌝ }
-    ensures { λ r. ⌜ r ≡ codes 9 (refusedOrders 4 lane) ⌝ }
+    ensures { λ r. ⌜ r ≡ 8 * 1 + lane + 4 * Store.bit (not «in_second») ⌝ }
 {
-    match lane {
-        0 => REFUSED_BY_0,
-        1 => REFUSED_BY_1,
-        2 => REFUSED_BY_2,
-        _ => REFUSED_BY_3,
+    if in_second {
+        return EXCHANGE_BUFFER + lane;
     }
+    EXCHANGE_BUFFER + lane + SECOND
+}
+
+// The orders of an exchange that is refused at a lane: the exchanges up to it, the outputs low, and every stream paused.
+fn refused_orders(lane: usize, in_second: LaneFlags) -> [u16; 9]
+    requires { ⌜ lane < 4 ⌝ }
+    ensures { λ r. ⌜ r ≡ codes 9 (codeGiven «in_second») (refusedOrders 4 lane) ⌝ }
+{
+    let a = exchange(0, in_second[0]);
+    let b = exchange(1, in_second[1]);
+    let c = exchange(2, in_second[2]);
+    let d = exchange(3, in_second[3]);
+    match lane {
+        0 => refused_by_0(a),
+        1 => refused_by_1(a, b),
+        2 => refused_by_2(a, b, c),
+        _ => refused_by_3(a, b, c, d),
+    }
+}
+
+// The orders of a frame set that starts: every buffer exchanged, every stream enabled, and the timers. All DMA streams are enabled before any
+// timer DMA request is opened.
+fn start_orders(in_second: LaneFlags) -> [u16; 9]
+    ensures { λ r. ⌜ r ≡ codes 9 (codeGiven «in_second») (startOrders 4 []) ⌝ }
+{
+    [
+        exchange(0, in_second[0]),
+        exchange(1, in_second[1]),
+        exchange(2, in_second[2]),
+        exchange(3, in_second[3]),
+        START_DMA,
+        START_DMA + 1,
+        START_DMA + 2,
+        START_DMA + 3,
+        START_FRAME,
+    ]
 }
 
 // A frame set in flight, but for what it carries.
@@ -371,7 +402,8 @@ pub(crate) fn send(
     let values = set.values;
     let lane = set.telemetry_lane;
     let packets = dshot::packets_of_kind(kind(state), values, lane);
-    let spares = encode_spares(first, second, marks_at(state), packets, timing_at(state));
+    let marks = marks_at(state);
+    let spares = encode_spares(first, second, marks, packets, timing_at(state));
     let duties = spares.first_duties;
     let refusing = lanes_taken(lanes);
     if refusing < LANES {
@@ -380,11 +412,17 @@ pub(crate) fn send(
             out,
             FAULT,
             refusing as u16 + 6,
-            refused_orders(refusing),
+            refused_orders(refusing, marks),
             [0; LANES],
         );
         return;
     }
     frame_started(state, now_ms, set.ordinary);
-    tell(out, sent_event(lease_expired), 9, START_ORDERS, duties);
+    tell(
+        out,
+        sent_event(lease_expired),
+        9,
+        start_orders(marks),
+        duties,
+    );
 }

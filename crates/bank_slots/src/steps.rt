@@ -16,6 +16,7 @@ use crate::SPURIOUS;
 use crate::VALUES;
 use crate::memory::bump;
 use dshot::DshotCommandSequence;
+use dshot::at_most;
 ghost use mathlib.Core.Path.{_≡_};
 ghost use mathlib.Core.Option.{none};
 ghost use Prim.Native.Nat.{_+_, _<_};
@@ -25,7 +26,9 @@ ghost use Rattle.dshot.specs.Answers.{runOf};
 ghost use Rattle.dshot_bank_spec.specs.Commands.{commandStop, clearRequestSent, cancelTelemetryRequest};
 ghost use Rattle.dshot_bank_spec.specs.With.{withCommandSequence};
 ghost use Rattle.dshot_bank_spec.specs.Send.{latchFault};
+ghost use Rattle.bank_slots_spec.specs.Memory.{at};
 ghost use Rattle.bank_slots_spec.specs.Places.{slots};
+ghost use Rattle.bank_slots_spec.specs.Load.{runFrom};
 ghost use Rattle.bank_slots_spec.specs.Moves.{Moves, onCore};
 ghost use Rattle.bank_slots_spec.specs.Parts.{bumped, faultCounted, flagsLatched, requestsCleared, queued};
 
@@ -52,6 +55,19 @@ pub(crate) fn clear_run(state: &mut [u16])
     state[RUN + 2] = 0;
     state[RUN + 3] = 0;
     state[RUN + 4] = 0;
+}
+
+// The run in the four slots from `k`, of an argument or of the state. An index above 255 is spent, as 255 is, and of the last slot the low byte
+// counts.
+pub(crate) fn run_from(run: &[u16], k: usize) -> DshotCommandSequence
+    requires { ⌜ k + 3 < length (now run) ⌝ }
+    ensures { λ r. ⌜ runOf r ≡ runFrom k (at (now (run .entry))) ⌝ }
+{
+    DshotCommandSequence {
+        commands: [run[k], run[k + 1]],
+        index: at_most(run[k + 2], 255) as u8,
+        repeats_left: (run[k + 3] % 256) as u8,
+    }
 }
 
 pub(crate) fn put_run(state: &mut [u16], motor: usize, run: DshotCommandSequence)

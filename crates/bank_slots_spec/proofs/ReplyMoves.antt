@@ -98,6 +98,13 @@ pub counts-of : {a a′ : Answer Reading} {v i s : ℕ} (l : LaneReply) → a �
     → countReply a (record { reply = refused noReply; valid = v; invalid = i; consecutiveInvalid = s }) ≡ countReply a′ l
 counts-of {a} {a′} l e f g h = (λ j. countReply (e j) (record { reply = refused noReply; valid = f j; invalid = g j; consecutiveInvalid = h j })) ∙ same-counts a′ l
 
+-- a reply beside the counts that it leaves is the record after it
+pub counted-beside : (a : Answer Reading) (l : LaneReply) (v : LaneReply) → v ≡ countReply a l
+    → record { reply = a; valid = v .valid; invalid = v .invalid; consecutiveInvalid = v .consecutiveInvalid } ≡ countReply a l
+counted-beside a l v e =
+    let reply = counted-reply a l in
+    λ j. record { reply = reply j; valid = e j .valid; invalid = e j .invalid; consecutiveInvalid = e j .consecutiveInvalid }
+
 -- a lane's record replaced
 abbrev laneSet : ℕ → LaneReply → Bank → Bank
 laneSet i l b = withReplies (set (b .replies) i l) b

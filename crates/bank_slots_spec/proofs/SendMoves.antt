@@ -1,10 +1,10 @@
 -- What the steps of sending a frame set write, and what that does to the bank in the slots.
 -- Assumes nothing.
 use mathlib.Core.Path.{_≡_, _∙_, refl, sym, ap, subst}
-use mathlib.Core.Bool.{Bool, true, false, not}
+use mathlib.Core.Bool.{Bool, true, false, not, true≢false}
 use mathlib.Core.List.{List, [], _∷_, _++_}
 use mathlib.Core.Option.{Option, none, some}
-use Prim.Native.Nat.{ℕ, zero, suc, _+_, _-_, _%_, _^_, _<_, _≤_}
+use Prim.Native.Nat.{ℕ, zero, suc, _+_, _-_, _*_, _%_, _^_, _<_, _≤_}
 use native.Mathlib.Omega.{arith}
 use lib.Dec.{eqb, ltb}
 use lib.ListN.{length, getD, take, drop, replicate}
@@ -264,6 +264,49 @@ unfolding frameStarted
 frame-starts now ordinary a b c = moves-as (moves-then a (moves-then b c)) refl
 
 -- ---- a frame set
+
+-- ---- the numbers of orders
+
+-- an order to exchange: the first buffer where the lane sends from the second, and the other way round
+pub exchange-first : (lane : ℕ) (inSecond : Bool) → inSecond ≡ true → 8 + lane ≡ 8 * 1 + lane + 4 * bit (not inSecond)
+exchange-first lane true e = omega arith
+exchange-first lane false e = absurd (true≢false (sym e))
+
+pub exchange-second : (lane : ℕ) (inSecond : Bool) → inSecond ≡ false → 8 + lane + 4 ≡ 8 * 1 + lane + 4 * bit (not inSecond)
+exchange-second lane true e = absurd (true≢false e)
+exchange-second lane false e = omega arith
+
+module _ (marks : List Bool) where
+  -- a lane's order to exchange
+  abbrev given : ℕ → ℕ
+  given m = 8 * 1 + m + 4 * bit (not (getD marks m false))
+
+  -- the orders of a frame set that starts
+  pub start-coded : {a b c d : ℕ} → a ≡ given 0 → b ≡ given 1 → c ≡ given 2 → d ≡ given 3
+      → _≡_ {A = List ℕ} (a ∷ b ∷ c ∷ d ∷ 16 ∷ 17 ∷ 18 ∷ 19 ∷ 24 ∷ []) (codes 9 (codeGiven marks) (startOrders 4 []))
+  unfolding tabulate
+  start-coded a b c d = λ j. a j ∷ b j ∷ c j ∷ d j ∷ 16 ∷ 17 ∷ 18 ∷ 19 ∷ 24 ∷ []
+
+  -- and of one that is refused at a lane
+  at-lane : {k lane : ℕ} → lane ≡ k → codes 9 (codeGiven marks) (refusedOrders 4 k) ≡ codes 9 (codeGiven marks) (refusedOrders 4 lane)
+  at-lane e = sym (ap (λ (i : ℕ). codes 9 (codeGiven marks) (refusedOrders 4 i)) e)
+
+  module _ {lane a b c d : ℕ} {r : List ℕ} (p : a ≡ given 0) (q : b ≡ given 1) (s : c ≡ given 2) (t : d ≡ given 3) where
+    pub refused-0 : lane ≡ 0 → r ≡ a ∷ 40 ∷ 48 ∷ 49 ∷ 50 ∷ 51 ∷ 0 ∷ 0 ∷ 0 ∷ [] → r ≡ codes 9 (codeGiven marks) (refusedOrders 4 lane)
+    unfolding tabulate
+    refused-0 e h = h ∙ (λ j. p j ∷ 40 ∷ 48 ∷ 49 ∷ 50 ∷ 51 ∷ 0 ∷ 0 ∷ 0 ∷ []) ∙ at-lane e
+
+    pub refused-1 : lane ≡ 1 → r ≡ a ∷ b ∷ 40 ∷ 48 ∷ 49 ∷ 50 ∷ 51 ∷ 0 ∷ 0 ∷ [] → r ≡ codes 9 (codeGiven marks) (refusedOrders 4 lane)
+    unfolding tabulate
+    refused-1 e h = h ∙ (λ j. p j ∷ q j ∷ 40 ∷ 48 ∷ 49 ∷ 50 ∷ 51 ∷ 0 ∷ 0 ∷ []) ∙ at-lane e
+
+    pub refused-2 : lane ≡ 2 → r ≡ a ∷ b ∷ c ∷ 40 ∷ 48 ∷ 49 ∷ 50 ∷ 51 ∷ 0 ∷ [] → r ≡ codes 9 (codeGiven marks) (refusedOrders 4 lane)
+    unfolding tabulate
+    refused-2 e h = h ∙ (λ j. p j ∷ q j ∷ s j ∷ 40 ∷ 48 ∷ 49 ∷ 50 ∷ 51 ∷ 0 ∷ []) ∙ at-lane e
+
+    pub refused-3 : lane ≡ 3 → r ≡ a ∷ b ∷ c ∷ d ∷ 40 ∷ 48 ∷ 49 ∷ 50 ∷ 51 ∷ [] → r ≡ codes 9 (codeGiven marks) (refusedOrders 4 lane)
+    unfolding tabulate
+    refused-3 e h = h ∙ (λ j. p j ∷ q j ∷ s j ∷ t j ∷ 40 ∷ 48 ∷ 49 ∷ 50 ∷ 51 ∷ []) ∙ at-lane e
 
 -- what is told of a refused exchange
 refused-told : (inSecond : List Bool) (lane : ℕ) → lane < 4

@@ -1,7 +1,7 @@
 -- The definitions that say what the code's state and answers stand for are injective, so the equation of a promise determines bank and answer.
 -- Assumes nothing.
 use mathlib.Core.Path.{_≡_, _∙_, refl, sym, ap}
-use mathlib.Core.Bool.{true, false}
+use mathlib.Core.Bool.{Bool, true, false}
 use mathlib.Core.List.{List, [], _∷_, map}
 use mathlib.Core.Option.{Option, none, some}
 use Prim.Native.Nat.{ℕ, zero, suc}
@@ -290,11 +290,11 @@ service-event-back ServiceEvents.Busy = refl
 service-event-back ServiceEvents.LeaseExpired = refl
 service-event-back ServiceEvents.Faulted = refl
 
-pub serviceAnswer-injective : (a b : Service) (l m : List Order) → serviceAnswer a l ≡ serviceAnswer b m → a ≡ b
-serviceAnswer-injective (Services.Event e) (Services.Event f) l m h = ap Services.Event (injective serviceEventOf serviceEventBack service-event-back e f (cc))
-serviceAnswer-injective (Services.Event e) Services.WrongLength l m h = differ (cc)
-serviceAnswer-injective Services.WrongLength (Services.Event f) l m h = differ (cc)
-serviceAnswer-injective Services.WrongLength Services.WrongLength l m h = refl
+pub serviceAnswer-injective : (a b : Service) (l m : List Order) (u v : List Bool) → serviceAnswer a l u ≡ serviceAnswer b m v → a ≡ b
+serviceAnswer-injective (Services.Event e) (Services.Event f) l m u v h = ap Services.Event (injective serviceEventOf serviceEventBack service-event-back e f (cc))
+serviceAnswer-injective (Services.Event e) Services.WrongLength l m u v h = differ (cc)
+serviceAnswer-injective Services.WrongLength (Services.Event f) l m u v h = differ (cc)
+serviceAnswer-injective Services.WrongLength Services.WrongLength l m u v h = refl
 
 interruptEventBack : InterruptEvent → DshotInterruptEvent
 interruptEventBack completed = InterruptEvents.Completed

@@ -2,6 +2,7 @@
 -- For `service`.
 -- Assumes nothing.
 use mathlib.Core.Path.{_≡_}
+use mathlib.Core.Bool.{Bool}
 use mathlib.Core.List.{List, []}
 use Rattle.dshot_reply_spec.specs.Refusals.{wrongLength}
 use Rattle.dshot_bank_spec.specs.State.{Buffers}
@@ -25,10 +26,10 @@ serviceEventOf Busy = busy
 serviceEventOf LeaseExpired = lease-expired
 serviceEventOf Faulted = faulted
 
--- an answer with its orders, or document 01's number
-abbrev pub serviceAnswer : Service → List Order → Answer
-serviceAnswer (Event e) orders = serviced (serviceEventOf e) orders
-serviceAnswer WrongLength orders = refused wrongLength
+-- an answer with its orders and the marks before the call, or document 01's number
+abbrev pub serviceAnswer : Service → List Order → List Bool → Answer
+serviceAnswer (Event e) orders inSecond = serviced (serviceEventOf e) orders inSecond
+serviceAnswer WrongLength orders inSecond = refused wrongLength
 
 -- the same event, orders and core
 pub record Skips (r : Skipped) (s : Spec.Skipped) : Type 0 where
@@ -40,7 +41,7 @@ pub record Skips (r : Skipped) (s : Spec.Skipped) : Type 0 where
 
 -- the same event, orders with their first duties, bank and buffers
 pub record Serves (r : Served) (b : Buffers) (s : Spec.Served) : Type 0 where
-  pub answer : serviceAnswer (r .answer) (s .orders) ≡ serviced (s .event) (s .orders)
+  pub answer : (inSecond : List Bool) → serviceAnswer (r .answer) (s .orders) inSecond ≡ serviced (s .event) (s .orders) inSecond
   pub orders : r .orders ≡ held (s .orders)
   pub duties : r .«first_duties» ≡ dutiesIn (s .orders)
   pub whole : Whole (s .orders)

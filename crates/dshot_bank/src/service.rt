@@ -274,8 +274,8 @@ impl DshotBank {
         second: &mut [u16],
         captures: &[u16],
     ) -> Served
-        ensures { λ r. ⌜ _≡_ {A = Stepped} (record { answer = serviceAnswer (r .answer) (ordersOf (r .orders) (r .«first_duties»)); state = record { bank = bankOf (r .bank); buffers = record { first = now (first .exit); second = now (second .exit) } } }) (step 4 (record { bank = bankOf self; buffers = record { first = now (first .entry); second = now (second .entry) } }) (service-call «now_ms» taken present masks (now (captures .entry)))) ⌝ }
-        ensures { λ r. ⌜ Just (r .orders) (r .«first_duties») (serviceAnswer (r .answer) (ordersOf (r .orders) (r .«first_duties»))) ⌝ }
+        ensures { λ r. ⌜ _≡_ {A = Stepped} (record { answer = serviceAnswer (r .answer) (ordersOf (r .orders) (r .«first_duties»)) (bankOf self .core .frame .inSecond); state = record { bank = bankOf (r .bank); buffers = record { first = now (first .exit); second = now (second .exit) } } }) (step 4 (record { bank = bankOf self; buffers = record { first = now (first .entry); second = now (second .entry) } }) (service-call «now_ms» taken present masks (now (captures .entry)))) ⌝ }
+        ensures { λ r. ⌜ Just (r .orders) (r .«first_duties») (serviceAnswer (r .answer) (ordersOf (r .orders) (r .«first_duties»)) (bankOf self .core .frame .inSecond)) ⌝ }
     {
         if !lengths_fit(first.len(), second.len(), captures.len()) {
             return Served {

@@ -1,9 +1,7 @@
 -- `bank_slots::commands::queue` meets its contract: a run made of four slots, and put.
 -- Assumes nothing.
 use mathlib.Core.Path.{ap}
-use mathlib.Core.List.{[], _∷_}
-use Prim.Native.Nat.{ℕ, _%_}
-use Rattle.bank_slots_spec.specs.Memory.{at}
+use Rattle.dshot_spec.specs.Command.{CommandRun}
 use Rattle.bank_slots_spec.specs.Load.{load}
 use Rattle.bank_slots_spec.specs.Moves.{onCore}
 use Rattle.bank_slots_spec.specs.Parts.{queued}
@@ -12,26 +10,8 @@ use borrow.Author.Needs.{needs}
 use Rattle.bank_slots.proofs.commands.queue.Statement.{statement}
 use Rattle.bank_slots.proofs.commands.queue.Tie as tie
 
-shared-slice-read-t6 : tie.Need-shared-slice-read-t6
-shared-slice-read-t6 c = search needs
-
-shared-slice-read-t8 : tie.Need-shared-slice-read-t8
-shared-slice-read-t8 c = search needs
-
-shared-slice-read-at-most : tie.Need-shared-slice-read-at-most
-shared-slice-read-at-most c = search needs
-
-at-most-requires : tie.Need-at-most-requires
-at-most-requires c κs = search needs
-
-cast-t13 : tie.Need-cast-t13
-cast-t13 c = search needs
-
-shared-slice-read-t15 : tie.Need-shared-slice-read-t15
-shared-slice-read-t15 c = search needs
-
-cast-t17 : tie.Need-cast-t17
-cast-t17 c = search needs
+run-from-requires : tie.Need-run-from-requires
+run-from-requires c κs = search needs
 
 put-run-requires : tie.Need-put-run-requires
 put-run-requires c κs = search needs
@@ -41,23 +21,8 @@ same-length c = search needs
 
 returns : tie.Need-returns
 returns c =
-    let p = c .before .before in
-    let m = p .before .before .before in
-    let a = m .before .before .before .before .before .before .args in
-    let s = a .sequence .now in
-    moves-as (p .put-run .ensures) (ap (λ (i : ℕ). onCore (queued (a .motor) (record { commands = at s 0 ∷ at s 1 ∷ []; index = i; repeatsLeft = at s 3 % 256 })) (load (a .bank .now))) (m .at-most .ensures))
+    let a = c .before .before .before .before .before .before .before .args in
+    moves-as (c .before .before .put-run .ensures) (ap (λ (run : CommandRun). onCore (queued (a .motor) run) (load (a .bank .now))) (c .before .before .before .run-from .ensures))
 
 pub queue-spec : {M : Type 1} → statement M
-queue-spec =
-    tie.close
-    (tie.spec
-    shared-slice-read-t6
-    shared-slice-read-t8
-    shared-slice-read-at-most
-    at-most-requires
-    cast-t13
-    shared-slice-read-t15
-    cast-t17
-    put-run-requires
-    same-length
-    returns)
+queue-spec = tie.close (tie.spec run-from-requires put-run-requires same-length returns)

@@ -1,10 +1,11 @@
--- `bank_slots::looks::put_lane` meets its contract: a lane's reply out of its slots.
+-- `bank_slots::looks::put_lane` meets its contract: what is handed out of a lane's slots.
 -- Assumes nothing.
-use mathlib.Core.Path.{_∙_, ap}
+use mathlib.Core.Path.{_∙_, refl, ap}
 use mathlib.Core.List.{List}
 use Prim.Native.Nat.{ℕ}
 use Rattle.dshot_reply_spec.specs.Answer.{Answer}
 use Rattle.dshot_reply_spec.specs.Value.{Reading}
+use Rattle.dshot_bank_spec.proofs.LaneLaws.{on, off}
 use Rattle.bank_slots_spec.specs.Memory.{at, write}
 use Rattle.bank_slots_spec.specs.Load.{reply}
 use Rattle.bank_slots_spec.specs.Outs.{replySlots}
@@ -36,9 +37,22 @@ same-length c = search needs
 
 returns : tie.Need-returns
 returns c =
-    let a = c .before .before .before .before .before .before .before .before .before .args in
+    let a = c .before .before .before .before .before .before .before .before .before .before .args in
     let told : Answer Reading → List ℕ = λ (x : Answer Reading). write (slotRows (a .to) (replySlots x)) (a .out .now) in
-    c .before .before .put-reply .ensures ∙ ap told (c .before .before .before .stored .ensures ∙ ap (λ (n : ℕ). reply (at (a .bank .now) (a .from)) n) (c .before .before .before .before .word-at .ensures))
+    c .before .before .put-reply .ensures
+    ∙ ap told (on _ _ (c .before .before .before .before .before .before .before .if1 .taken) (c .before .before .before .stored .ensures ∙ ap (λ (n : ℕ). reply (at (a .bank .now) (a .from)) n) (c .before .before .before .before .word-at .ensures)))
+
+put-reply-requires-2 : tie.Need-put-reply-requires-2
+put-reply-requires-2 c κs = search needs
+
+same-length-2 : tie.Need-same-length-2
+same-length-2 c = search needs
+
+returns-2 : tie.Need-returns-2
+returns-2 c =
+    let a = c .before .before .before .before .before .before .before .args in
+    let told : Answer Reading → List ℕ = λ (x : Answer Reading). write (slotRows (a .to) (replySlots x)) (a .out .now) in
+    c .before .before .put-reply2 .ensures ∙ ap told (off _ _ (c .before .before .before .before .if1 .left) refl)
 
 pub put-lane-spec : {M : Type 1} → statement M
 put-lane-spec =
@@ -51,4 +65,7 @@ put-lane-spec =
     stored-requires
     put-reply-requires
     same-length
-    returns)
+    returns
+    put-reply-requires-2
+    same-length-2
+    returns-2)

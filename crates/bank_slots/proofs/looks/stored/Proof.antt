@@ -11,9 +11,6 @@ use Rattle.bank_slots.proofs.looks.stored.Tie as tie
 cast-low : tie.Need-cast-low
 cast-low c = search needs
 
-cast-t12 : tie.Need-cast-t12
-cast-t12 c = search needs
-
 returns : tie.Need-returns
 returns c = sym (ap (λ (k : ℕ). reply k (c .before .args .number)) (c .match .keys1))
 
@@ -48,17 +45,22 @@ returns-11 : tie.Need-returns-11
 returns-11 c = sym (ap (λ (k : ℕ). reply k (c .before .args .number)) (c .match .keys11))
 
 returns-12 : tie.Need-returns-12
-returns-12 c =
+returns-12 c = sym (ap (λ (k : ℕ). reply k (c .before .args .number)) (c .match .keys12))
+
+returns-13 : tie.Need-returns-13
+returns-13 c = sym (ap (λ (k : ℕ). reply k (c .before .args .number)) (c .match .keys13))
+
+returns-14 : tie.Need-returns-14
+returns-14 c =
     let a = c .before .args in
     let r = c .match .rest in
-    no-kind (a .kind) (a .number) (r .0 .0 .0 .0 .0 .0 .0 .0 .0 .0 .1) (r .0 .0 .0 .0 .0 .0 .0 .0 .0 .1) (r .0 .0 .0 .0 .0 .0 .0 .0 .1) (r .0 .0 .0 .0 .0 .0 .0 .1) (r .0 .0 .0 .0 .0 .0 .1) (r .0 .0 .0 .0 .0 .1) (r .0 .0 .0 .0 .1) (r .0 .0 .0 .1) (r .0 .0 .1) (r .0 .1) (r .1)
+    no-kind (a .kind) (a .number) (r .0 .0 .0 .0 .0 .0 .0 .0 .0 .0 .0 .0 .1) (r .0 .0 .0 .0 .0 .0 .0 .0 .0 .0 .0 .1) (r .0 .0 .0 .0 .0 .0 .0 .0 .0 .0 .1) (r .0 .0 .0 .0 .0 .0 .0 .0 .0 .1) (r .0 .0 .0 .0 .0 .0 .0 .0 .1) (r .0 .0 .0 .0 .0 .0 .0 .1) (r .0 .0 .0 .0 .0 .0 .1) (r .0 .0 .0 .0 .0 .1) (r .0 .0 .0 .0 .1) (r .0 .0 .0 .1) (r .0 .0 .1) (r .0 .1) (r .1)
 
 pub stored-spec : {M : Type 1} → statement M
 stored-spec =
     tie.close
     (tie.spec
     cast-low
-    cast-t12
     returns
     returns-2
     returns-3
@@ -70,4 +72,6 @@ stored-spec =
     returns-9
     returns-10
     returns-11
-    returns-12)
+    returns-12
+    returns-13
+    returns-14)

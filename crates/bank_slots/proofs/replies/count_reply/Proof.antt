@@ -2,10 +2,12 @@
 -- Assumes nothing.
 use mathlib.Core.Path.{_∙_, ap}
 use Rattle.dshot_bank_spec.specs.State.{LaneReply}
+use Rattle.dshot_reply.specs.Answers.{replyAnswer}
+use Rattle.dshot_bank.specs.States.{laneReplyOf}
 use Rattle.bank_slots_spec.specs.Memory.{at, write}
 use Rattle.bank_slots_spec.specs.Store.{laneRows}
 use Rattle.bank_slots_spec.specs.Load.{laneFrom}
-use Rattle.bank_slots_spec.proofs.ReplyMoves.{counts-of}
+use Rattle.bank_slots_spec.proofs.ReplyMoves.{counts-of, counted-beside}
 use borrow.Author.Needs.{needs}
 use Rattle.bank_slots.proofs.replies.count_reply.Statement.{statement}
 use Rattle.bank_slots.proofs.replies.count_reply.Tie as tie
@@ -44,9 +46,10 @@ returns : tie.Need-returns
 returns c =
     let a = c .before .before .before .before .before .before .before .before .before .before .before .before .before .args in
     let xs = a .state .now in
+    let l = laneFrom (a .k) (at xs) in
+    let counted = c .before .before .before .counting .ensures ∙ counts-of l (c .before .before .before .before .of .ensures) (c .before .before .before .before .before .before .before .before .before .before .word-at .ensures) (c .before .before .before .before .before .before .before .before .word-at2 .ensures) (c .before .before .before .before .before .before .word-at3 .ensures) in
     c .before .before .put-lane .ensures
-    ∙ ap (λ (l : LaneReply). write (laneRows (a .k) l) xs)
-    (c .before .before .before .counting .ensures ∙ counts-of (laneFrom (a .k) (at xs)) (c .before .before .before .before .of .ensures) (c .before .before .before .before .before .before .before .before .before .before .word-at .ensures) (c .before .before .before .before .before .before .before .before .word-at2 .ensures) (c .before .before .before .before .before .before .word-at3 .ensures))
+    ∙ ap (λ (v : LaneReply). write (laneRows (a .k) v) xs) (counted-beside (replyAnswer (a .read)) l (laneReplyOf (c .before .before .before .counting .result)) counted)
 
 pub count-reply-spec : {M : Type 1} → statement M
 count-reply-spec =

@@ -61,19 +61,20 @@ same-length-4 c = search needs
 
 returns : tie.Need-returns
 returns c =
-    let d = c .before .before .before .before .before .before .before .before .before .before in
-    let e = d .before .before .before .before .before .before in
-    let k = e .before .before .before .before .before .before .before in
-    let f = k .before .before .before .before .frame-set in
-    let n = k .before .before .before .before .before .before .before .before in
-    let a = n .before .before .before .before .before .before .before .args in
-    let p = n .before .before .before .before .before .before .before .pre in
+    let n = c .before .before .before .before .before .before .before .before .before .before .before .before .before .before .before .before .before .before .before .before .before .before .before .before .before .before .before .before .before .before .before in
+    let a = c .before .before .before .before .before .before .before .before .before .before .before .before .before .before .before .before .before .before .before .before .before .before .before .before .before .before .before .before .before .before .before .before .before .before .before .before .before .before .args in
+    let p = c .before .before .before .before .before .before .before .before .before .before .before .before .before .before .before .before .before .before .before .before .before .before .before .before .before .before .before .before .before .before .before .before .before .before .before .before .before .before .pre in
     let s = n .next-command-frame .ensures .1 in
     let m = motorCommandOf (n .next-command-frame .result) in
     let b : Buffers = record { first = a .first .now; second = a .second .now } in
-    let packets = packets-sent (a .state .now) _ m s (k .before .kind .ensures) (f .ensures .values) (f .ensures .lane) (k .packets-of-kind .ensures) in
-    let spares = spares-sent (a .state .now) _ m s b (p .2) (p .3) (e .before .timing-at .ensures) packets (e .before .before .before .marks-at .ensures) (e .encode-spares .ensures .1 .1) in
-    sends-refused (a .state .now) _ m s (a .now-ms) (a .lease-expired) (a .lanes .now) b spares (d .lanes-taken .result) (d .lanes-taken .ensures) (c .before .before .before .before .before .before .before .before .before .if1 .taken) (c .before .before .before .before .before .before .before .exchange-refused .ensures) (c .before .before .before .refused-orders .ensures) (c .before .before .tell .ensures)
+    let f = c .before .before .before .before .before .before .before .before .before .before .before .before .before .before .before .before .before .before .before .before .before .before .before .before .before .before .before .frame-set in
+    let time = c .before .before .before .before .before .before .before .before .before .before .before .before .before .before .before .before .before .timing-at .ensures in
+    let marks = c .before .before .before .before .before .before .before .before .before .before .before .before .before .before .before .before .before .before .before .before .before .marks-at .ensures in
+    let packets = packets-sent (a .state .now) _ m s (c .before .before .before .before .before .before .before .before .before .before .before .before .before .before .before .before .before .before .before .before .before .before .before .before .kind .ensures) (f .ensures .values) (f .ensures .lane) (c .before .before .before .before .before .before .before .before .before .before .before .before .before .before .before .before .before .before .before .before .before .before .before .packets-of-kind .ensures) in
+    let e = c .before .before .before .before .before .before .before .before .before .before .before .before .before .before .before .before .encode-spares in
+    let spares = spares-sent (a .state .now) _ m s b (p .2) (p .3) time packets marks (e .ensures .1 .1) in
+    sends-refused (a .state .now) _ m s (a .now-ms) (a .lease-expired) (a .lanes .now) b spares (c .before .before .before .before .before .before .before .before .before .before .lanes-taken .result) (c .before .before .before .before .before .before .before .before .before .before .lanes-taken .ensures)
+    (c .before .before .before .before .before .before .before .before .before .if1 .taken) (c .before .before .before .before .before .before .before .exchange-refused .ensures) marks (c .before .before .before .refused-orders .ensures) (c .before .before .tell .ensures)
 
 frame-started-requires : tie.Need-frame-started-requires
 frame-started-requires c κs = c .before .before .before .before .before .before .before .before .before .before .before .before .before .before .before .before .before .before .before .before .before .before .state .given ∙ c .before .before .before .before .before .before .before .before .before .before .before .before .before .before .before .before .before .before .before .before .before .before .before .before .before .before .before .before .before .before .pre .0
@@ -81,11 +82,14 @@ frame-started-requires c κs = c .before .before .before .before .before .before
 sent-event-requires : tie.Need-sent-event-requires
 sent-event-requires c κs = search needs
 
+start-orders-requires : tie.Need-start-orders-requires
+start-orders-requires c κs = search needs
+
 tell-requires-2 : tie.Need-tell-requires-2
-tell-requires-2 c κs = c .before .before .before .before .before .before .before .before .before .before .before .before .before .before .before .before .before .before .before .before .before .before .before .before .before .before .before .before .before .before .before .before .before .before .before .pre .4
+tell-requires-2 c κs = c .before .before .before .before .before .before .before .before .before .before .before .before .before .before .before .before .before .before .before .before .before .before .before .before .before .before .before .before .before .before .before .before .before .before .before .before .pre .4
 
 same-length-5 : tie.Need-same-length-5
-same-length-5 c = c .before .before .before .before .before .before .state3 .given ∙ c .before .before .before .before .before .before .before .before .before .before .before .before .before .before .before .before .before .before .before .before .before .before .before .before .before .before .before .before .before .before .state .given
+same-length-5 c = c .before .before .before .before .before .before .before .state3 .given ∙ c .before .before .before .before .before .before .before .before .before .before .before .before .before .before .before .before .before .before .before .before .before .before .before .before .before .before .before .before .before .before .before .state .given
 
 same-length-6 : tie.Need-same-length-6
 same-length-6 c = search needs
@@ -98,20 +102,21 @@ same-length-8 c = search needs
 
 returns-2 : tie.Need-returns-2
 returns-2 c =
-    let d = c .before .before .before .before .before .before .before .before .before .before in
-    let e = d .before .before .before .before .before .before in
-    let k = e .before .before .before .before .before .before .before in
-    let f = k .before .before .before .before .frame-set in
-    let n = k .before .before .before .before .before .before .before .before in
-    let a = n .before .before .before .before .before .before .before .args in
-    let p = n .before .before .before .before .before .before .before .pre in
+    let n = c .before .before .before .before .before .before .before .before .before .before .before .before .before .before .before .before .before .before .before .before .before .before .before .before .before .before .before .before .before .before .before .before in
+    let a = c .before .before .before .before .before .before .before .before .before .before .before .before .before .before .before .before .before .before .before .before .before .before .before .before .before .before .before .before .before .before .before .before .before .before .before .before .before .before .before .args in
+    let p = c .before .before .before .before .before .before .before .before .before .before .before .before .before .before .before .before .before .before .before .before .before .before .before .before .before .before .before .before .before .before .before .before .before .before .before .before .before .before .before .pre in
     let s = n .next-command-frame .ensures .1 in
     let m = motorCommandOf (n .next-command-frame .result) in
     let b : Buffers = record { first = a .first .now; second = a .second .now } in
-    let packets = packets-sent (a .state .now) _ m s (k .before .kind .ensures) (f .ensures .values) (f .ensures .lane) (k .packets-of-kind .ensures) in
-    let spares = spares-sent (a .state .now) _ m s b (p .2) (p .3) (e .before .timing-at .ensures) packets (e .before .before .before .marks-at .ensures) (e .encode-spares .ensures .1 .1) in
-    let duties = duties-sent (a .state .now) _ m s b (p .2) (p .3) (e .before .timing-at .ensures) packets (e .encode-spares .ensures .1 .0) in
-    sends-started (a .state .now) _ m s (a .now-ms) (a .lease-expired) (a .lanes .now) b spares (f .result .ordinary) (d .lanes-taken .ensures) (c .before .before .before .before .before .before .before .before .before .if1 .left) (f .ensures .request) (c .before .before .before .before .before .before .before .frame-started .ensures) (c .before .before .before .sent-event .ensures) duties (c .before .before .tell2 .ensures)
+    let f = c .before .before .before .before .before .before .before .before .before .before .before .before .before .before .before .before .before .before .before .before .before .before .before .before .before .before .before .before .frame-set in
+    let time = c .before .before .before .before .before .before .before .before .before .before .before .before .before .before .before .before .before .before .timing-at .ensures in
+    let marks = c .before .before .before .before .before .before .before .before .before .before .before .before .before .before .before .before .before .before .before .before .before .before .marks-at .ensures in
+    let packets = packets-sent (a .state .now) _ m s (c .before .before .before .before .before .before .before .before .before .before .before .before .before .before .before .before .before .before .before .before .before .before .before .before .before .kind .ensures) (f .ensures .values) (f .ensures .lane) (c .before .before .before .before .before .before .before .before .before .before .before .before .before .before .before .before .before .before .before .before .before .before .before .before .packets-of-kind .ensures) in
+    let e = c .before .before .before .before .before .before .before .before .before .before .before .before .before .before .before .before .before .encode-spares in
+    let spares = spares-sent (a .state .now) _ m s b (p .2) (p .3) time packets marks (e .ensures .1 .1) in
+    let duties = duties-sent (a .state .now) _ m s b (p .2) (p .3) time packets (e .ensures .1 .0) in
+    sends-started (a .state .now) _ m s (a .now-ms) (a .lease-expired) (a .lanes .now) b spares (f .result .ordinary) (c .before .before .before .before .before .before .before .before .before .before .before .lanes-taken .ensures) (c .before .before .before .before .before .before .before .before .before .before .if1 .left)
+    (f .ensures .request) (c .before .before .before .before .before .before .before .before .frame-started .ensures) (c .before .before .before .before .sent-event .ensures) duties marks (c .before .before .before .start-orders .ensures) (c .before .before .tell2 .ensures)
 
 pub send-spec : {M : Type 1} → statement M
 send-spec =
@@ -137,6 +142,7 @@ send-spec =
     returns
     frame-started-requires
     sent-event-requires
+    start-orders-requires
     tell-requires-2
     same-length-5
     same-length-6

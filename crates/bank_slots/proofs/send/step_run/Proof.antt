@@ -1,7 +1,8 @@
 -- `bank_slots::send::step_run` meets its contract: a run's next command, and the run after it; a spent run is cleared.
 -- Assumes nothing.
-use mathlib.Core.Path.{ap}
+use mathlib.Core.Path.{_∙_, ap}
 use native.Mathlib.Omega.{arith}
+use Rattle.dshot_spec.specs.Command.{CommandRun, nextValue}
 use Rattle.dshot.specs.Answers.{commandOf, nextOf}
 use Rattle.bank_slots_spec.proofs.SendMoves.{run-next}
 use borrow.Author.Needs.{needs}
@@ -17,47 +18,11 @@ sub-motor c = search needs
 cast-motor : tie.Need-cast-motor
 cast-motor c = search needs
 
-add-t12 : tie.Need-add-t12
-add-t12 c = search needs
+add-run-from : tie.Need-add-run-from
+add-run-from c = search needs
 
-mul-t13 : tie.Need-mul-t13
-mul-t13 c = search needs
-
-slice-read-t9 : tie.Need-slice-read-t9
-slice-read-t9 c = search needs
-
-add-t15 : tie.Need-add-t15
-add-t15 c = search needs
-
-mul-t16 : tie.Need-mul-t16
-mul-t16 c = search needs
-
-slice-read-t11 : tie.Need-slice-read-t11
-slice-read-t11 c = search needs
-
-add-t19 : tie.Need-add-t19
-add-t19 c = search needs
-
-mul-t20 : tie.Need-mul-t20
-mul-t20 c = search needs
-
-slice-read-t10 : tie.Need-slice-read-t10
-slice-read-t10 c = search needs
-
-cast-t23 : tie.Need-cast-t23
-cast-t23 c = search needs
-
-add-t24 : tie.Need-add-t24
-add-t24 c = search needs
-
-mul-t25 : tie.Need-mul-t25
-mul-t25 c = search needs
-
-slice-read-t27 : tie.Need-slice-read-t27
-slice-read-t27 c = search needs
-
-cast-t29 : tie.Need-cast-t29
-cast-t29 c = search needs
+run-from-requires : tie.Need-run-from-requires
+run-from-requires c κs = search needs
 
 next-value-requires : tie.Need-next-value-requires
 next-value-requires c κs = search needs
@@ -79,9 +44,9 @@ same-length c = search needs
 
 returns : tie.Need-returns
 returns c =
-    let a = c .before .before .before .before .before .before .before .before .before .before .before .before .before .before .before in
+    let a = c .before .before .before .before .before .before .before .before .before .before .before .before .before in
     let n = c .before .before .before .before .before .before .before .before .next-value in
-    let s = run-next (a .args .state .now) (a .pre .1) (nextOf (n .result)) (n .ensures) (ap commandOf (c .before .before .before .before .before .value .given .1)) (c .before .before .put-run .ensures) in
+    let s = run-next (a .args .state .now) (a .pre .1) (nextOf (n .result)) (n .ensures ∙ ap (nextValue 10) (c .before .before .before .before .before .before .before .before .before .run-from .ensures)) (ap commandOf (c .before .before .before .before .before .value .given .1)) (c .before .before .put-run .ensures) in
     (omega arith, (s .0, s .1))
 
 same-length-2 : tie.Need-same-length-2
@@ -89,9 +54,9 @@ same-length-2 c = search needs
 
 returns-2 : tie.Need-returns-2
 returns-2 c =
-    let a = c .before .before .before .before .before .before .before .before .before .before .before .before .before .before in
+    let a = c .before .before .before .before .before .before .before .before .before .before .before .before in
     let n = c .before .before .before .before .before .before .before .next-value in
-    let s = run-next (a .args .state .now) (a .pre .1) (nextOf (n .result)) (n .ensures) (ap commandOf (c .before .before .before .before .enum-told .given .1)) (c .before .before .clear-run .ensures) in
+    let s = run-next (a .args .state .now) (a .pre .1) (nextOf (n .result)) (n .ensures ∙ ap (nextValue 10) (c .before .before .before .before .before .before .before .before .run-from .ensures)) (ap commandOf (c .before .before .before .before .enum-told .given .1)) (c .before .before .clear-run .ensures) in
     (tt, (s .0, s .1))
 
 pub step-run-spec : {M : Type 1} → statement M
@@ -101,20 +66,8 @@ step-run-spec =
     slice-read-motor
     sub-motor
     cast-motor
-    add-t12
-    mul-t13
-    slice-read-t9
-    add-t15
-    mul-t16
-    slice-read-t11
-    add-t19
-    mul-t20
-    slice-read-t10
-    cast-t23
-    add-t24
-    mul-t25
-    slice-read-t27
-    cast-t29
+    add-run-from
+    run-from-requires
     next-value-requires
     enum-known-value
     put-run-requires

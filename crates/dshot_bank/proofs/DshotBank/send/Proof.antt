@@ -28,7 +28,7 @@ returns c =
     let a = c .before .before .before .before .before .before .before .before .before .before .before .before .before .args in
     let sent = c .before .before .before .before .before .before .before .before .send-requested .ensures in
     record {
-      answer = ap (λ (e : ServiceEvent). serviced e (sendRequested 4 (a .now-ms) (a .taken) (coreOf (a .core)) .orders)) (c .before .before .before .sent-event .ensures ∙ ap (λ (s : Bool). sentEvent s (a .lease-expired)) (sent .0 .started));
+      answer = λ marks. ap (λ (e : ServiceEvent). serviced e (sendRequested 4 (a .now-ms) (a .taken) (coreOf (a .core)) .orders) marks) (c .before .before .before .sent-event .ensures ∙ ap (λ (s : Bool). sentEvent s (a .lease-expired)) (sent .0 .started));
       orders = sent .0 .orders;
       duties = sent .0 .duties;
       whole = sent .0 .whole;

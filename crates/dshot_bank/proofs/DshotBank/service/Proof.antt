@@ -55,7 +55,8 @@ returns-2 c =
     let h = c .before .before .before .before .service-lanes .ensures in
     let r = c .before .before .before .before .service-lanes .result in
     let told = back (r .orders) (r .«first_duties») _ (h .orders) (h .duties) (h .whole) in
-    let answer = ap (λ (l : List Order). serviceAnswer (r .answer) l) told ∙ h .answer in (
+    let marks = s .bank .core .frame .inSecond in
+    let answer = ap (λ (l : List Order). serviceAnswer (r .answer) l marks) told ∙ h .answer marks in (
       (λ j. record { answer = answer j; state = record { bank = h .bank j; buffers = h .buffers j } })
           ∙ sym (ap (λ (t : Bool). refuseOr s (lengthRefusal t 0) acted) fit),
       just (r .orders) (r .«first_duties») _ _ (h .orders) (h .duties) (ap ordersIn answer),

@@ -11,7 +11,7 @@ use Rattle.dshot_bank.proofs.service.Skipped.served.Tie as tie
 
 returns : tie.Need-returns
 returns c = λ b s h. record {
-  answer = ap (λ (e : ServiceEvent). serviced e (s .orders)) (h .event);
+  answer = λ marks. ap (λ (e : ServiceEvent). serviced e (s .orders) marks) (h .event);
   orders = h .orders;
   duties = h .duties;
   whole = h .whole;
