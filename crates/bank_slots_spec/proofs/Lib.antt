@@ -17,3 +17,4 @@ pub mod CalledStored
 pub mod HiddenSlots
 pub mod SlotsIsolated
 pub mod SlotsFollow
+pub mod SlotMeanings
