@@ -38,6 +38,15 @@ static inline void obey(struct host *host, uint32_t number)
 #endif
 }
 
+/* In the sum an order is its kind and its lane: the buffers of bank.rs have no numbers. */
+static inline void obey_order(struct host *host, uint16_t order)
+{
+    host->hardware.order = order;
+#ifdef SUMMED
+    host->hardware.sum += 8 * kuzhenga_order_kind(order) + kuzhenga_order_lane(order);
+#endif
+}
+
 /* A refusal, or an event other than a frame set that started or a lane that is done. */
 static inline void unusual(struct host *host, uint32_t number)
 {
@@ -51,7 +60,7 @@ static inline void obey_answer(struct host *host)
 
     unusual(host, host->answer[KUZHENGA_EVENT]);
     for (unsigned i = 0; i < count; i++)
-        obey(host, host->answer[KUZHENGA_FIRST_ORDER + i]);
+        obey_order(host, host->answer[KUZHENGA_FIRST_ORDER + i]);
 }
 
 static inline void serve(struct host *host, uint64_t now_ms, const struct cycles *cycles, const uint16_t *captures)
@@ -93,21 +102,24 @@ static inline void start(struct host *host, const struct cycles *cycles)
 /* The rows of `Left` in bank.rs. */
 static void count(struct host *host, uint32_t counts[24])
 {
-    uint16_t stats[KUZHENGA_STATS_SLOTS], replies[KUZHENGA_REPLY_STATS_SLOTS], taken[KUZHENGA_REPLIES_SLOTS];
+    struct kuzhenga_stats stats;
+    struct kuzhenga_reply_stats replies;
+    struct kuzhenga_replies taken;
 
-    unusual(host, kuzhenga_bank_stats(host->bank, KUZHENGA_BANK_SLOTS, stats, KUZHENGA_STATS_SLOTS));
-    unusual(host, kuzhenga_bank_reply_stats(host->bank, KUZHENGA_BANK_SLOTS, replies, KUZHENGA_REPLY_STATS_SLOTS));
-    unusual(host, kuzhenga_bank_take_replies(host->bank, KUZHENGA_BANK_SLOTS, taken, KUZHENGA_REPLIES_SLOTS));
+    unusual(host, kuzhenga_bank_stats(host->bank, KUZHENGA_BANK_SLOTS, stats.slots, KUZHENGA_STATS_SLOTS));
+    unusual(host, kuzhenga_bank_reply_stats(host->bank, KUZHENGA_BANK_SLOTS, replies.slots, KUZHENGA_REPLY_STATS_SLOTS));
+    unusual(host, kuzhenga_bank_take_replies(host->bank, KUZHENGA_BANK_SLOTS, taken.slots, KUZHENGA_REPLIES_SLOTS));
     for (size_t lane = 0; lane < KUZHENGA_LANES; lane++) {
-        counts[lane] = kuzhenga_count(stats, 2 + lane);
-        for (size_t row = 0; row < 3; row++)
-            counts[4 + 4 * row + lane] = kuzhenga_count(replies, 4 * row + lane);
-        /* A refusal, and zeros where none are held, show as 0. */
-        counts[16 + lane] = kuzhenga_reading_number(kuzhenga_lane_reply(taken, lane) + 1);
+        counts[lane] = kuzhenga_lane_completions(stats, lane);
+        counts[4 + lane] = kuzhenga_lane_valid(replies, lane);
+        counts[8 + lane] = kuzhenga_lane_invalid(replies, lane);
+        counts[12 + lane] = kuzhenga_lane_invalid_in_a_row(replies, lane);
+        /* A refusal shows as 0, and so does a lane of which none is held. */
+        counts[16 + lane] = kuzhenga_lane_refusal(taken, lane) == KUZHENGA_DONE ? kuzhenga_lane_number(taken, lane) : 0;
     }
-    counts[20] = kuzhenga_count(stats, 0);
-    counts[21] = kuzhenga_count(stats, 1);
-    counts[22] = kuzhenga_count(stats, 9);
+    counts[20] = kuzhenga_frames_started(stats);
+    counts[21] = kuzhenga_frames_completed(stats);
+    counts[22] = kuzhenga_dma_faults(stats);
     counts[23] = host->hardware.sum;
 }
 

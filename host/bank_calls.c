@@ -5,6 +5,7 @@
 #include <string.h>
 
 #include "bank_lists.h"
+#include "bank_places.h"
 
 enum { MOST_SAMPLES = 700, FIRST_LOOK = 11 };
 
@@ -118,9 +119,9 @@ static int cancel_telemetry_request(struct kept *kept, const struct line *line, 
 /* The text has 0 for no lane, and one more than the lane. */
 static int take_telemetry_request_sent(struct kept *kept, const struct line *line, struct outcome *outcome)
 {
-    uint16_t motor[2];
+    uint16_t motor[KUZHENGA_REQUEST_SENT_SLOTS];
     (void)line;
-    must(kuzhenga_bank_take_telemetry_request_sent(BANK, motor, 2));
+    must(kuzhenga_bank_take_telemetry_request_sent(BANK, motor, KUZHENGA_REQUEST_SENT_SLOTS));
     return answer(outcome, motor[0] ? motor[1] + 1u : 0u);
 }
 
@@ -139,6 +140,20 @@ static int unroll(uint16_t *samples, size_t room, const uint64_t *runs, size_t c
     return 1;
 }
 
+/* The text has no buffers of orders. Each is what the lane's mark says after the call: what it sends from, if it took
+ * it, else the other. */
+static void check_buffers(const uint16_t *bank, const uint16_t *lanes, const uint16_t *told)
+{
+    for (size_t i = 0; i < told[KUZHENGA_ORDERS]; i++) {
+        uint16_t order = told[KUZHENGA_FIRST_ORDER + i];
+        size_t lane = kuzhenga_order_lane(order);
+        int in_second = bank[PLACE_IN_SECOND + lane] != 0, taken = lanes[KUZHENGA_TAKEN + lane] != 0;
+        unsigned buffer = kuzhenga_order_kind(order) == KUZHENGA_EXCHANGE_BUFFER && in_second == taken;
+        if (kuzhenga_order_buffer(order) != buffer)
+            end("an order with the wrong buffer:", order);
+    }
+}
+
 /* Of each buffer as much is lent as the line says. */
 static int service(struct kept *kept, const struct line *line, struct outcome *outcome)
 {
@@ -152,6 +167,7 @@ static int service(struct kept *kept, const struct line *line, struct outcome *o
                                              kept->second, given[14], captures, given[15], told,
                                              KUZHENGA_SERVICE_SLOTS);
     keep_orders(outcome, told, KUZHENGA_FIRST_DUTY - KUZHENGA_FIRST_ORDER);
+    check_buffers(kept->bank, lanes, told);
     memcpy(outcome->duties, told + KUZHENGA_FIRST_DUTY, sizeof outcome->duties);
     return answer_event(outcome, refusal, told[KUZHENGA_EVENT]);
 }
@@ -169,18 +185,31 @@ static int on_dma_interrupt(struct kept *kept, const struct line *line, struct o
 
 /* ---- looks ---------------------------------------------------------------------------------------------------- */
 
+/* What is told of a lane besides its refusal is nothing if it has one, and it has one if no replies are held. */
+static void check_lane(struct kuzhenga_replies taken, size_t lane)
+{
+    const uint16_t *slots = taken.slots + KUZHENGA_LANE_REPLY + KUZHENGA_LANE_REPLY_SLOTS * lane;
+    if (!kuzhenga_replies_held(taken) && slots[0] != KUZHENGA_NO_REPLY)
+        end("a reply where none is held, lane", lane);
+    if (slots[0] != KUZHENGA_DONE && (slots[1] != 0 || slots[2] != 0 || slots[3] != 0))
+        end("a reading beside a refusal, lane", lane);
+}
+
 /* 0 where none are held, else 1 and for each lane the refusal, the kind and the number. */
 static int take_replies(struct kept *kept, const struct line *line, struct outcome *outcome)
 {
-    uint16_t taken[KUZHENGA_REPLIES_SLOTS];
+    struct kuzhenga_replies taken;
     (void)line;
-    must(kuzhenga_bank_take_replies(BANK, taken, KUZHENGA_REPLIES_SLOTS));
-    answer(outcome, taken[0]);
-    for (size_t lane = 0; taken[0] != 0 && lane < KUZHENGA_LANES; lane++) {
-        const uint16_t *reply = taken + 1 + 4 * lane;
-        answer(outcome, reply[0]);
-        answer(outcome, reply[1]);
-        answer(outcome, kuzhenga_reading_number(reply + 1));
+    must(kuzhenga_bank_take_replies(BANK, taken.slots, KUZHENGA_REPLIES_SLOTS));
+    answer(outcome, kuzhenga_replies_held(taken));
+    for (size_t lane = 0; lane < KUZHENGA_LANES; lane++) {
+        uint32_t refusal = kuzhenga_lane_refusal(taken, lane);
+        check_lane(taken, lane);
+        if (!kuzhenga_replies_held(taken))
+            continue;
+        answer(outcome, refusal);
+        answer(outcome, refusal == KUZHENGA_DONE ? kuzhenga_lane_kind(taken, lane) : 0);
+        answer(outcome, refusal == KUZHENGA_DONE ? kuzhenga_lane_number(taken, lane) : 0);
     }
     return 1;
 }
@@ -205,7 +234,7 @@ static int look(struct kept *kept, const struct line *line, struct outcome *outc
     must(looks[which].call(BANK, out, looks[which].slots));
     size_t numbers = looks[which].counts ? looks[which].slots / 2 : looks[which].slots;
     for (size_t i = 0; i < numbers; i++)
-        answer(outcome, looks[which].counts ? kuzhenga_count(out, i) : out[i]);
+        answer(outcome, looks[which].counts ? word_at(out + 2 * i) : out[i]);
     return 1;
 }
 
@@ -248,7 +277,7 @@ static int set_stats(struct kept *kept, const struct line *line, struct outcome 
 {
     (void)outcome;
     for (size_t i = 0; i < line->count; i++)
-        put_count(kept->bank + KUZHENGA_BANK_COUNTS + 2 * i, line->given[i]);
+        put_count(kept->bank + PLACE_COUNTS + 2 * i, line->given[i]);
     return 1;
 }
 
@@ -258,7 +287,7 @@ static int set_reply_stats(struct kept *kept, const struct line *line, struct ou
     (void)outcome;
     for (size_t i = 0; i < line->count; i++) {
         size_t lane = i % KUZHENGA_LANES, which = i / KUZHENGA_LANES;
-        put_count(kept->bank + KUZHENGA_BANK_REPLIES + REPLY_SLOTS * lane + REPLY_COUNTS + 2 * which, line->given[i]);
+        put_count(kept->bank + PLACE_REPLIES + REPLY_SLOTS * lane + REPLY_COUNTS + 2 * which, line->given[i]);
     }
     return 1;
 }

@@ -1,5 +1,5 @@
-/* Makes the calls of a list on a bank, and prints what each gave: what crates/dshot_bank_cases does, by the calls
- * for C, with every field of the bank read out of its slots. List and text are described there.
+/* Makes the calls of a list on a bank, and prints what each gave, as crates/dshot_bank_cases does, by the calls for C.
+ * Every field of the bank is read out of its slots (bank_places.h). List and text are described in that crate.
  *
  *   bank_lists <LIST
  *
@@ -11,6 +11,7 @@
 #include <string.h>
 
 #include "bank_lists.h"
+#include "bank_places.h"
 
 enum {
     MOST_BYTES = 65536,               /* a list has fewer */
@@ -34,7 +35,7 @@ static void slots(const uint16_t *from, size_t count)
 
 static uint64_t long_at(const uint16_t *from)
 {
-    return kuzhenga_count(from, 0) | (uint64_t)kuzhenga_count(from, 1) << 32;
+    return word_at(from) | (uint64_t)word_at(from + 2) << 32;
 }
 
 /* Each number has a space before it; a part without numbers has just the space. */
@@ -65,68 +66,57 @@ static void put_orders(const struct outcome *outcome)
 
 static void put_lease(const uint16_t *bank)
 {
-    uint64_t over = long_at(bank + KUZHENGA_BANK_LEASE_OVER);
-    number(long_at(bank + KUZHENGA_BANK_LEASE_STARTED));
+    uint64_t over = long_at(bank + PLACE_LEASE_OVER);
+    number(long_at(bank + PLACE_LEASE_STARTED));
     number(over != 0);
     if (over != 0)
         number(over - 1);
 }
 
-/* The slots have one kind for all channels of debug, and a refusal as a kind; the text has the kinds of the
- * bench's line, and before them the refusal. */
+/* The text has the refusal, or 0, before the kind. The slots have a refusal as a kind. */
 static void put_reply(const uint16_t *lane)
 {
-    static const unsigned kinds[] = {KUZHENGA_ERPM,   KUZHENGA_TEMP,  KUZHENGA_VOLT, KUZHENGA_AMP,
-                                     KUZHENGA_DEBUG1, KUZHENGA_STATE, KUZHENGA_EDT};
-    enum { DEBUG = 4, CHANNEL = 256 };
-    unsigned kind = lane[0];
-    uint32_t carried = kuzhenga_reading_number(lane);
-    if (kind >= sizeof kinds / sizeof *kinds) {
-        number(kind);
-        number(0);
-        number(0);
-        return;
-    }
-    number(0);
-    number(kind == DEBUG ? kinds[kind] + carried / CHANNEL - 1 : kinds[kind]);
-    number(kind == DEBUG ? carried % CHANNEL : carried);
+    int refused = lane[0] >= STORED_REFUSAL;
+    number(refused ? (uint64_t)lane[0] - STORED_REFUSAL : 0);
+    number(refused ? 0 : lane[0]);
+    number(word_at(lane + REPLY_NUMBER));
 }
 
 static void put_replies(const uint16_t *bank)
 {
-    number(bank[KUZHENGA_BANK_REPLIES_HELD]);
-    for (size_t lane = 0; bank[KUZHENGA_BANK_REPLIES_HELD] != 0 && lane < KUZHENGA_LANES; lane++)
-        put_reply(bank + KUZHENGA_BANK_REPLIES + REPLY_SLOTS * lane);
+    number(bank[PLACE_REPLIES_HELD]);
+    for (size_t lane = 0; bank[PLACE_REPLIES_HELD] != 0 && lane < KUZHENGA_LANES; lane++)
+        put_reply(bank + PLACE_REPLIES + REPLY_SLOTS * lane);
 }
 
 static void put_counts(const uint16_t *bank)
 {
     for (size_t i = 0; i < STATS; i++)
-        number(kuzhenga_count(bank + KUZHENGA_BANK_COUNTS, i));
+        number(word_at(bank + PLACE_COUNTS + 2 * i));
     for (size_t which = 0; which < LANE_COUNTS; which++)
         for (size_t lane = 0; lane < KUZHENGA_LANES; lane++)
-            number(kuzhenga_count(bank + KUZHENGA_BANK_REPLIES + REPLY_SLOTS * lane + REPLY_COUNTS, which));
+            number(word_at(bank + PLACE_REPLIES + REPLY_SLOTS * lane + REPLY_COUNTS + 2 * which));
 }
 
-/* Flags and lanes are printed as the slots have them, so that one that is not as the header says would show. */
+/* Flags and lanes are printed as the slots have them, so that one that is not as the places say would show. */
 static void put_fields(const uint16_t *bank)
 {
-    slots(bank + KUZHENGA_BANK_TIMING, KUZHENGA_TIMING_SLOTS);
-    slots(bank + KUZHENGA_BANK_VALUES, KUZHENGA_LANES);
+    slots(bank + PLACE_TIMING, KUZHENGA_TIMING_SLOTS);
+    slots(bank + PLACE_VALUES, KUZHENGA_LANES);
     put_lease(bank);
-    number(bank[KUZHENGA_BANK_REQUEST]);
-    number(bank[KUZHENGA_BANK_REQUEST_SENT]);
-    slots(bank + KUZHENGA_BANK_RUN, bank[KUZHENGA_BANK_RUN] != 0 ? 1 + KUZHENGA_RUN_SLOTS : 1);
-    number(long_at(bank + KUZHENGA_BANK_FRAME_STARTED));
-    number(kuzhenga_count(bank + KUZHENGA_BANK_COMPLETION_MASK, 0));
-    number(bank[KUZHENGA_BANK_BUSY]);
-    number(bank[KUZHENGA_BANK_FAULTED]);
-    number(bank[KUZHENGA_BANK_BIDIRECTIONAL]);
-    number(bank[KUZHENGA_BANK_RECEIVING]);
-    number(bank[KUZHENGA_BANK_REPLIES_WAITING]);
+    number(bank[PLACE_REQUEST]);
+    number(bank[PLACE_REQUEST_SENT]);
+    slots(bank + PLACE_RUN, bank[PLACE_RUN] != 0 ? 1 + KUZHENGA_RUN_SLOTS : 1);
+    number(long_at(bank + PLACE_FRAME_STARTED));
+    number(word_at(bank + PLACE_COMPLETION_MASK));
+    number(bank[PLACE_BUSY]);
+    number(bank[PLACE_FAULTED]);
+    number(bank[PLACE_BIDIRECTIONAL]);
+    number(bank[PLACE_RECEIVING]);
+    number(bank[PLACE_REPLIES_WAITING]);
     put_replies(bank);
     put_counts(bank);
-    slots(bank + KUZHENGA_BANK_IN_SECOND, KUZHENGA_LANES);
+    slots(bank + PLACE_IN_SECOND, KUZHENGA_LANES);
 }
 
 /* ---- the slots that a call changed ---------------------------------------------------------------------------- */

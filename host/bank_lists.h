@@ -10,11 +10,11 @@ enum {
     MOST_ORDERS = 9
 };
 
-/* Of the slots of a lane's reply, after KUZHENGA_BANK_REPLIES. */
-enum {
-    REPLY_SLOTS = 9,
-    REPLY_COUNTS = 3 /* where in these its counts begin */
-};
+/* A number of 32 bits out of two slots. */
+static inline uint32_t word_at(const uint16_t *from)
+{
+    return (uint32_t)from[0] | (uint32_t)from[1] << 16;
+}
 
 /* What a host keeps for a bank. */
 struct kept {
