@@ -1,7 +1,7 @@
-/* Calls every exported function with slices of no, too few, enough and too many elements and random contents,
- * and fails where a call returns a number that its header does not name, takes a slice of another length,
- * changes a slice that it was lent to read, or changes any when it refuses. Each slice ends where a page begins
- * that may not be touched.
+/* Calls every exported function with slices of no, too few, enough and too many elements and random contents. It fails
+ * where a call returns a number that its header does not name, or takes a slice of another length. It fails where a
+ * call changes a slice that it was lent to read, or any when it refuses. It fails where orders, replies or a command
+ * are not as the header says. Each slice ends where a page begins that may not be touched.
  *
  *   fuzz [ROUNDS [SEED]]
  */
@@ -84,13 +84,14 @@ static void make_areas(void)
 
 static void fill(unsigned char *at, size_t bytes)
 {
+    uint32_t small = below(2) ? 6 : 32;
     switch (below(4)) {
     case 0:
         memset(at, 0, bytes);
         return;
     case 1:
         for (size_t i = 0; i < bytes; i++)
-            at[i] = (unsigned char)(i % 2 ? 0 : below(6));
+            at[i] = (unsigned char)(i % 2 ? 0 : below(small));
         return;
     case 2:
         memset(at, 0xff, bytes);
@@ -168,12 +169,12 @@ static unsigned long calls, refused_calls;
 
 static void fail(const char *what, unsigned long r)
 {
-    fprintf(stderr, "fuzz: %s: %s (returned %lu)\n", calling, what, r);
+    fprintf(stderr, "fuzz: %s: %s (%lu)\n", calling, what, r);
     exit(1);
 }
 
-/* `may`: the refusals that the header names, one bit each. */
-static void check(const char *name, uint32_t r, uint32_t may)
+/* `may`: the refusals that the header names, one bit each. True where the call is done. */
+static int check(const char *name, uint32_t r, uint32_t may)
 {
     int fits = 1;
     calling = name;
@@ -191,6 +192,71 @@ static void check(const char *name, uint32_t r, uint32_t may)
             && memcmp(lent[i].at, lent[i].before, lent[i].bytes) != 0)
             fail("a slice was changed that should not be", r);
     lent_count = 0;
+    return r == 0;
+}
+
+/* What a slice holds in a slot, now and before the call. */
+static uint16_t slot(const struct slice *s, size_t i)
+{
+    uint16_t held;
+    memcpy(&held, s->at + 2 * i, 2);
+    return held;
+}
+
+static uint16_t slot_before(const struct slice *s, size_t i)
+{
+    uint16_t held;
+    memcpy(&held, s->before + 2 * i, 2);
+    return held;
+}
+
+/* Orders for a lane name it, one that exchanges a buffer names that too, and zeros follow the last. */
+static void check_orders(const struct slice *answer, unsigned events, unsigned room)
+{
+    unsigned orders = slot(answer, KUZHENGA_ORDERS);
+    if (slot(answer, KUZHENGA_EVENT) >= events || orders > room)
+        fail("no such event, or too many orders", orders);
+    for (unsigned i = 0; i < room; i++) {
+        uint16_t order = slot(answer, KUZHENGA_FIRST_ORDER + i);
+        unsigned kind = kuzhenga_order_kind(order);
+        int exchanges = kind == KUZHENGA_EXCHANGE_BUFFER;
+        int of_lane = exchanges || kind == KUZHENGA_START_DMA || kind == KUZHENGA_PAUSE_AND_CLEAR;
+        if (i < orders ? kind < KUZHENGA_EXCHANGE_BUFFER || kind > KUZHENGA_END_RECEIVE : order != 0)
+            fail("no such order", order);
+        if ((!exchanges && kuzhenga_order_buffer(order) != 0) || (!of_lane && kuzhenga_order_lane(order) != 0))
+            fail("an order with a part too many", order);
+    }
+}
+
+/* A lane has a reading, or one of the refusals of replies and zeros; each has 7 where none are held. */
+static void check_replies(const struct slice *s)
+{
+    struct kuzhenga_replies taken;
+    memcpy(taken.slots, s->at, sizeof taken.slots);
+    if (kuzhenga_replies_held(taken) > 1)
+        fail("no flag", kuzhenga_replies_held(taken));
+    for (size_t n = 0; n < KUZHENGA_LANES; n++) {
+        size_t at = KUZHENGA_LANE_REPLY + KUZHENGA_LANE_REPLY_SLOTS * n;
+        uint32_t refusal = kuzhenga_lane_refusal(taken, n);
+        if (refusal == KUZHENGA_DONE && kuzhenga_lane_kind(taken, n) > KUZHENGA_EDT)
+            fail("no such kind", kuzhenga_lane_kind(taken, n));
+        if (refusal != KUZHENGA_DONE && (refusal < KUZHENGA_NO_REPLY || refusal > KUZHENGA_ZERO_PERIOD))
+            fail("no refusal of a reply", refusal);
+        if (refusal != KUZHENGA_DONE && (slot(s, at + 1) | slot(s, at + 2) | slot(s, at + 3)) != 0)
+            fail("a reading beside a refusal", refusal);
+        if (!kuzhenga_replies_held(taken) && refusal != KUZHENGA_NO_REPLY)
+            fail("a reply where none is held", refusal);
+    }
+}
+
+/* An index above 1, however large, is spent, and the run stays; else its command is told. */
+static void check_command(const struct slice *run, const struct slice *value)
+{
+    unsigned index = slot_before(run, 2);
+    if (slot(value, 0) != (index <= 1) || slot(value, 1) != (index <= 1 ? slot_before(run, index) : 0))
+        fail("not the next command of a run", index);
+    if (index > 1 && memcmp(run->at, run->before, run->bytes) != 0)
+        fail("a spent run was changed", index);
 }
 
 #define B(n) (1u << (n))
@@ -262,7 +328,8 @@ static void commands(void)
     a = lend(4, 2);
     check("command_spin_direction", kuzhenga_command_spin_direction(number(), SLOTS(a)), B(13));
     a = lend(4, 2), b = lend(2, 2);
-    check("command_next_value", kuzhenga_command_next_value(SLOTS(a), SLOTS(b)), B(13));
+    if (check("command_next_value", kuzhenga_command_next_value(SLOTS(a), SLOTS(b)), B(13)))
+        check_command(a, b);
     if (kuzhenga_command_lease_expired(clock_ms(), number(), clock_ms()) > 1)
         fail("no flag", 0);
     if (kuzhenga_fallback_release_due(number(), number()) > 1)
@@ -332,13 +399,16 @@ static void bank_cycle(void)
     struct slice *bank = lend(KUZHENGA_BANK_SLOTS, 2), *lanes = show(KUZHENGA_HARDWARE_SLOTS, 2);
     struct slice *first = lend(KUZHENGA_BUFFER_SLOTS, 2), *second = lend(KUZHENGA_BUFFER_SLOTS, 2);
     struct slice *samples = show(KUZHENGA_CAPTURE_SAMPLES, 2), *out = lend(KUZHENGA_SERVICE_SLOTS, 2);
-    check("bank_service", kuzhenga_bank_service(SLOTS(bank), clock_ms(), SLOTS(lanes), SLOTS(first), SLOTS(second),
-                                                SLOTS(samples), SLOTS(out)), B(13));
+    if (check("bank_service", kuzhenga_bank_service(SLOTS(bank), clock_ms(), SLOTS(lanes), SLOTS(first),
+                                                    SLOTS(second), SLOTS(samples), SLOTS(out)), B(13)))
+        check_orders(out, KUZHENGA_SERVICE_FAULTED + 1, KUZHENGA_FIRST_DUTY - KUZHENGA_FIRST_ORDER);
     bank = lend(KUZHENGA_BANK_SLOTS, 2), out = lend(KUZHENGA_INTERRUPT_SLOTS, 2);
-    check("bank_on_dma_interrupt", kuzhenga_bank_on_dma_interrupt(SLOTS(bank), lane(), number(), below(2), number(),
-                                                                  number(), SLOTS(out)), B(12) | B(13));
+    if (check("bank_on_dma_interrupt", kuzhenga_bank_on_dma_interrupt(SLOTS(bank), lane(), number(), below(2), number(),
+                                                                      number(), SLOTS(out)), B(12) | B(13)))
+        check_orders(out, KUZHENGA_SPURIOUS + 1, KUZHENGA_INTERRUPT_SLOTS - KUZHENGA_FIRST_ORDER);
     bank = lend(KUZHENGA_BANK_SLOTS, 2), out = lend(KUZHENGA_REPLIES_SLOTS, 2);
-    check("bank_take_replies", kuzhenga_bank_take_replies(SLOTS(bank), SLOTS(out)), B(13));
+    if (check("bank_take_replies", kuzhenga_bank_take_replies(SLOTS(bank), SLOTS(out)), B(13)))
+        check_replies(out);
 }
 
 typedef uint32_t look(const uint16_t *bank, size_t bank_len, uint16_t *out, size_t out_len);
