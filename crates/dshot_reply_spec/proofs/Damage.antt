@@ -114,8 +114,9 @@ kept v w′ p l e = ap nibbleOf e ∙ reply-nibble v p l
 pub damaged : (v w′ p : ℕ) → Damaged (replyWord v) w′ p → Undecoded (decodeWord w′)
 unfolding decodeWord
 damaged v w′ p d =
+    let here : p < 4 = omega arith in
     not-taken (nibbleAt w′)
     (λ n e.
-    let x = settled (nibbleAt w′) (replyNibble v) (small-nibbles w′ n) (λ q l. nibble-lt v q) p (d .place)
+    let x = settled (nibbleAt w′) (replyNibble v) (small-nibbles w′ n) (λ q l. nibble-lt v q) p here
     (λ q l i. kept v w′ q l (d .others q i)) (e ∙ sym (nibbles-xor v)) in
-    d .changed (sym (symbol-back (symbolAt w′ p) (symbol-small w′ p) (n p (d .place))) ∙ ap symbolOf x ∙ sym (reply-symbol v p (d .place))))
+    d .changed (sym (symbol-back (symbolAt w′ p) (symbol-small w′ p) (n p here)) ∙ ap symbolOf x ∙ sym (reply-symbol v p here)))

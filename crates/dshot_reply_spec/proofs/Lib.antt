@@ -14,6 +14,8 @@ pub mod Rows
 pub mod Cross
 pub mod Moves
 pub mod Theorems
+pub mod Inhabited
+pub mod Captures
 pub mod Words
 pub mod SimulatedRenders
 pub mod Simulated

@@ -52,7 +52,7 @@ local w w′ q m i j hi hj room e b z =
     }
 
 -- the symbols at and above q + a, where all above 5a bits from 5q on is the same
-symbol-top : (w w′ q a p : ℕ) → w′ / 2 ^ (5 * q) / 2 ^ (5 * a) ≡ w / 2 ^ (5 * q) / 2 ^ (5 * a) → q + a ≤ p → symbolAt w′ p ≡ symbolAt w p
+pub symbol-top : (w w′ q a p : ℕ) → w′ / 2 ^ (5 * q) / 2 ^ (5 * a) ≡ w / 2 ^ (5 * q) / 2 ^ (5 * a) → q + a ≤ p → symbolAt w′ p ≡ symbolAt w p
 symbol-top w w′ q a p e h =
     let d = p - (q + a) in
     let s : p ≡ q + (a + d) = omega arith in

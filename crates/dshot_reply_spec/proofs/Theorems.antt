@@ -19,6 +19,7 @@ use Rattle.dshot_reply_spec.specs.Refusals.{invalidSymbol, noReply, zero
 use Rattle.dshot_reply_spec.specs.Claims.{MovedEdge}
 use Rattle.dshot_reply_spec.specs.Gcr.{decodeWord, replyWord}
 use Rattle.dshot_reply_spec.specs.Move.{Formed, Moved, Turned, wordValue}
+use Rattle.dshot_reply_spec.specs.Nearest.{nearest}
 use Rattle.dshot_reply_spec.specs.Reading.{sampledReply, wordReply}
 use Rattle.dshot_reply_spec.specs.Render.{Damaged, Renders}
 use Rattle.dshot_reply_spec.specs.Runs.{levels, transitionsOf}
@@ -38,7 +39,7 @@ sound-given r = inl (r, refl)
 
 speed-sound : (p : ℕ) → Sound (speedOf p)
 unfolding speedOf
-speed-sound p = sound-pick (eqb p 0) (refused zeroPeriod) (given (erpm ((600000 + p / 2) / p))) (inr refl) (sound-given (erpm ((600000 + p / 2) / p)))
+speed-sound p = sound-pick (eqb p 0) (refused zeroPeriod) (given (erpm (nearest 600000 p))) (inr refl) (sound-given (erpm (nearest 600000 p)))
 
 speed-value-sound : (v : ℕ) → Sound (speedValue v)
 unfolding speedValue
