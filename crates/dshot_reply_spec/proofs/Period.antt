@@ -1,15 +1,15 @@
--- The value of a period has document 01's smallest exponent, and every period of 1 to 65535 has a value, of 12 bits.
+-- The value of a period has document 01's smallest exponent and no other value has, and every period of 1 to 65535 has a value, of 12 bits.
 -- Assumes nothing.
-use mathlib.Core.Path.{_≡_, refl, ap, subst, _∙_}
+use mathlib.Core.Path.{_≡_, refl, sym, ap, subst, _∙_}
 use mathlib.Core.Bool.{Bool, true, false}
-use mathlib.Core.Logic.{⊎-elim}
-use Prim.Native.Nat.{ℕ, zero, suc, _+_, _/_, _^_, _≤_, _<_}
+use mathlib.Core.Logic.{_⊎_, inl, inr, ⊎-elim}
+use Prim.Native.Nat.{ℕ, zero, suc, _+_, _*_, _/_, _^_, _≤_, _<_}
 use native.Mathlib.Nat.{div-one}
 use native.Mathlib.Omega.{arith}
 use lib.Dec.{eqb, leb, ltb}
 use lib.Pow.{shr-shr}
 use borrow.Author.Tests.{leb-false, leb-true, le-ltb, ltb-false, ne-eqb}
-use Rattle.dshot_reply_spec.proofs.Cases.{lt-or-ge}
+use Rattle.dshot_reply_spec.proofs.Cases.{lt-or-eq-or-gt, lt-or-ge}
 use Rattle.dshot_reply_spec.proofs.Choice.{not-both, not-first}
 use Rattle.dshot_reply_spec.proofs.PeriodLaws.{scaled-done}
 use Rattle.dshot_reply_spec.specs.Answer.{given}
@@ -29,8 +29,8 @@ ends-here k p e h least short = record {
   exponent = e;
   small = h;
   value = scaled-done k e (p / 2 ^ e) least;
-  leaves = least;
-  smallest = short;
+  leaves = omega arith;
+  smallest = λ i l. omega (arith, short i l);
 }
 
 -- the scaling from an exponent on: it has times enough left
@@ -57,6 +57,15 @@ period-value p v e =
     let q : scaled 7 0 p ≡ v = cc in
     subst (SmallestExponent p) (ap (scaled 7 0) (div-one p) ∙ q)
     (scaled-smallest 7 p 0 (ltb-false 65535 p (b .0)) refl (λ i l. absurd (omega arith)))
+
+-- document 01's description fits no second value
+pub one-value : (p v v′ : ℕ) → SmallestExponent p v → SmallestExponent p v′ → v ≡ v′
+one-value p v v′ a b = go (lt-or-eq-or-gt (a .exponent) (b .exponent))
+  where
+    go : (a .exponent < b .exponent) ⊎ ((a .exponent ≡ b .exponent) ⊎ (b .exponent < a .exponent)) → v ≡ v′
+    go (inl l) = absurd (omega (arith, b .smallest (a .exponent) l, a .leaves))
+    go (inr (inl e)) = a .value ∙ ap (λ (n : ℕ). n * 512 + p / 2 ^ n) e ∙ sym (b .value)
+    go (inr (inr l)) = absurd (omega (arith, a .smallest (b .exponent) l, b .leaves))
 
 -- a period of 1 to 65535 has a value
 pub period-given : (p : ℕ) → 0 < p → p ≤ 65535 → (v : ℕ) × (periodValue p ≡ given v)

@@ -58,6 +58,10 @@ sound-kept : (a : Answer Reading) → Sound a → Rejected a → ⊥
 sound-kept a (inl p) j = not-both (p .1) (j .refusal)
 sound-kept a (inr p) j = let f = j .refusal in let z : j .number ≡ zeroPeriod = cc in omega (arith, j .most)
 
+-- a refusal of a damaged capture has one of the numbers 7 to 10
+pub rejected-number : {A : Type 0} (n : ℕ) → Rejected {A = A} (refused n) → (7 ≤ n) × (n ≤ 10)
+rejected-number n j = let f = j .refusal in let z : n ≡ j .number = cc in omega (arith, j .least, j .most)
+
 value-kept : (v : ℕ) (extended : Bool) → Rejected (replyOf v extended) → ⊥
 value-kept v extended = sound-kept (replyOf v extended) (value-sound v extended)
 
@@ -99,7 +103,7 @@ module _ (s : ℕ) (pos : 0 < s) (samples : List ℕ) (mask : ℕ) (extended : B
       (rendered-reply w r)
     where
       with-number : (n : ℕ) → sampledReply s samples mask extended ≡ refused n → 7 ≤ n → n ≤ 10 → Rejected (sampledReply s samples mask extended)
-      with-number n e l m = record { number = n; refusal = e; least = l; most = m }
+      with-number n e l m = record { number = n; refusal = e; least = omega arith; most = omega arith }
 
   -- 2: a capture that renders a reply word with one symbol damaged is refused
   pub damage-refused : (v w′ p : ℕ) → Damaged (replyWord v) w′ p → Renders s (levels mask samples) w′ → Rejected (sampledReply s samples mask extended)
