@@ -1,4 +1,4 @@
--- What is equal with one lane hidden is equal in every slot that does not tell of that lane: of answers, and of a bank's state.
+-- What is equal with one lane hidden has as many slots, and is equal in every slot that does not tell of that lane: answers, and a bank's state.
 -- Assumes nothing.
 use mathlib.Core.Path.{_≡_, _∙_, refl, sym, ap, subst}
 use mathlib.Core.List.{List, [], _∷_, _++_}
@@ -6,7 +6,7 @@ use mathlib.Core.Option.{Option, none, some}
 use Prim.Native.Nat.{ℕ, zero, suc, _+_, _-_, _*_, _/_, _%_, _<_, _≤_}
 use native.Mathlib.Omega.{arith}
 use native.Mathlib.Decide.{decLt}
-use lib.ListN.{length, getD, set, take, replicate, List·getD-append, List·getD-eq-default}
+use lib.ListN.{length, getD, set, take, replicate, length-append, List·getD-append, List·getD-eq-default}
 use lib.Seq.{getD-append-add, getD-set-other}
 use Rattle.dshot_reply_spec.specs.Answer.{given, refused}
 use Rattle.dshot_reply_spec.specs.Refusals.{noReply}
@@ -24,12 +24,13 @@ use Rattle.bank_slots_spec.specs.Load.{fourLists}
 use Rattle.bank_slots_spec.specs.Store.{replyKind, replyNumber, coreRows, store}
 use Rattle.bank_slots_spec.specs.Called.{number}
 use Rattle.bank_slots_spec.specs.Outs.{wordSlots, replySlots, repliesSlots, replyCountSlots, slotsOf, outAfter}
-use Rattle.bank_slots_spec.specs.SlotClaims.{Within, Tells}
+use Rattle.bank_slots_spec.specs.SlotClaims.{Within, Tells, TellsSlot}
 
 -- ---- lists of parts
 
 -- two lists of two parts, the first parts of one length
-parts : (n i : ℕ) (a a′ t t′ : List ℕ) → length a ≡ n → length a′ ≡ n → (i < n → at a i ≡ at a′ i) → (n ≤ i → at t (i - n) ≡ at t′ (i - n)) → at (a ++ t) i ≡ at (a′ ++ t′) i
+parts : (n i : ℕ) (a a′ t t′ : List ℕ) → length a ≡ n → length a′ ≡ n → (i < n → at a i ≡ at a′ i)
+    → (n ≤ i → at t (i - n) ≡ at t′ (i - n)) → at (a ++ t) i ≡ at (a′ ++ t′) i
 parts n i a a′ t t′ l l′ front back = side (decLt i n)
   where
     behind : (x y : List ℕ) → length x ≡ n → n ≤ i → at (x ++ y) i ≡ at y (i - n)
@@ -40,7 +41,8 @@ parts n i a a′ t t′ l l′ front back = side (decLt i n)
     side (no q) = let p : n ≤ i = omega arith in behind a t l p ∙ back p ∙ sym (behind a′ t′ l′ p)
 
 -- four parts of n entries, the same but for one lane's
-module _ (lane n : ℕ) (f g : ℕ → List ℕ) (long : (k : ℕ) → length (f k) ≡ n) (long′ : (k : ℕ) → length (g k) ≡ n) (other : (k : ℕ) → (k ≡ lane → ⊥) → f k ≡ g k) where
+module _ (lane n : ℕ) (f g : ℕ → List ℕ) (long : (k : ℕ) → length (f k) ≡ n) (long′ : (k : ℕ) → length (g k) ≡ n)
+    (other : (k : ℕ) → (k ≡ lane → ⊥) → f k ≡ g k) where
   -- part k, of whose entries the j-th is looked at
   part : (k j : ℕ) → (k ≡ lane → j < n → ⊥) → at (f k) j ≡ at (g k) j
   part k j h = side (decLt k lane) (decLt lane k) (decLt j n)
@@ -68,7 +70,18 @@ reply-long : (a : Reply.Answer Reading) → length (replySlots a) ≡ 4
 reply-long (given r) = refl
 reply-long (refused n) = refl
 
-taken-told : (lane : ℕ) (r : Option (List (Reply.Answer Reading))) (i : ℕ) → (Within (1 + 4 * lane) 4 i → ⊥) → at (repliesSlots (hideTaken lane r)) i ≡ at (repliesSlots r) i
+taken-long : (lane : ℕ) (r : Option (List (Reply.Answer Reading))) → length (repliesSlots (hideTaken lane r)) ≡ length (repliesSlots r)
+taken-long lane none = refl
+taken-long lane (some l) = ap suc (long (set l lane (refused noReply)) ∙ sym (long l))
+  where
+    one : (q : List (Reply.Answer Reading)) (k : ℕ) → length (replySlots (getD q k (refused noReply))) ≡ 4
+    one q k = reply-long (getD q k (refused noReply))
+
+    long : (q : List (Reply.Answer Reading)) → length (fourLists (λ (k : ℕ). replySlots (getD q k (refused noReply)))) ≡ 16
+    long q = simp length-append (omega (arith, one q 0, one q 1, one q 2, one q 3))
+
+taken-told : (lane : ℕ) (r : Option (List (Reply.Answer Reading))) (i : ℕ) → (Tells lane (replied r) i → ⊥)
+    → at (repliesSlots (hideTaken lane r)) i ≡ at (repliesSlots r) i
 taken-told lane none i h = refl
 taken-told lane (some l) zero h = refl
 taken-told lane (some l) (suc i) h =
@@ -86,10 +99,10 @@ count-told lane l i h =
     four-parts lane 2 (λ (k : ℕ). wordSlots (getD (set l lane 0) k 0)) (λ (k : ℕ). wordSlots (getD l k 0)) (λ k. refl) (λ k. refl)
     (λ k q. ap wordSlots (getD-set-other l lane k 0 0 q)) i h
 
-counts-told : (lane : ℕ) (r : ReplyStats) (i : ℕ) → (Within (2 * lane) 2 (i % 8) → ⊥) → at (replyCountSlots (hideCounts lane r)) i ≡ at (replyCountSlots r) i
+counts-told : (lane : ℕ) (r : ReplyStats) (i : ℕ) → (Tells lane (reply-counts r) i → ⊥) → at (replyCountSlots (hideCounts lane r)) i ≡ at (replyCountSlots r) i
 counts-told lane r i h =
-    parts 8 i (told a′) (told a) (told b′ ++ told c′) (told b ++ told c) refl refl (λ p. count-told lane a i (λ w. h (subst (Within (2 * lane) 2) (omega arith) w)))
-    (λ p. parts 8 (i - 8) (told b′) (told b) (told c′) (told c) refl refl (λ q. count-told lane b (i - 8) (λ w. h (subst (Within (2 * lane) 2) (omega arith) w)))
+    parts 8 i (told a′) (told a) (told b′ ++ told c′) (told b ++ told c) refl refl (λ p. count-told lane a i (λ w. h (omega (arith, w))))
+    (λ p. parts 8 (i - 8) (told b′) (told b) (told c′) (told c) refl refl (λ q. count-told lane b (i - 8) (λ w. h (omega (arith, w))))
     (λ q. last q (decLt (i - 8 - 8) 8)))
   where
     a : List ℕ
@@ -111,7 +124,7 @@ counts-told lane r i h =
     c′ = set c lane 0
 
     last : 8 ≤ i - 8 → Dec (i - 8 - 8 < 8) → at (told c′) (i - 8 - 8) ≡ at (told c) (i - 8 - 8)
-    last q (yes d) = count-told lane c (i - 8 - 8) (λ w. h (subst (Within (2 * lane) 2) (omega arith) w))
+    last q (yes d) = count-told lane c (i - 8 - 8) (λ w. h (omega (arith, w)))
     last q (no d) = List·getD-eq-default (told c′) 0 {n = i - 8 - 8} (omega arith) ∙ sym (List·getD-eq-default (told c) 0 {n = i - 8 - 8} (omega arith))
 
 -- a slot of an answer that does not tell of the lane
@@ -128,6 +141,21 @@ out-told lane (counts s) out i h = refl
 out-told lane (values v) out i h = refl
 out-told lane (reply-counts r) out i h = counts-told lane r i h
 out-told lane (slots l) out i h = refl
+
+-- how many slots there are
+out-long : (lane : ℕ) (a : Answer) (out : List ℕ) → length (outAfter (hideAnswer lane a) out) ≡ length (outAfter a out)
+unfolding outAfter
+out-long lane done out = refl
+out-long lane (Call.refused n) out = refl
+out-long lane (motor-sent m) out = refl
+out-long lane (serviced e o) out = refl
+out-long lane (interrupted e o) out = refl
+out-long lane (replied r) out = taken-long lane r
+out-long lane (flag b) out = refl
+out-long lane (counts s) out = refl
+out-long lane (values v) out = refl
+out-long lane (reply-counts r) out = refl
+out-long lane (slots l) out = refl
 
 -- which slots these are, and the number of a refusal, a hidden answer tells as well
 tells-hidden : (lane : ℕ) (a : Answer) (i : ℕ) → Tells lane (hideAnswer lane a) i ≡ Tells lane a i
@@ -160,8 +188,14 @@ module _ (lane : ℕ) (a a′ : Answer) (e : hideAnswer lane a ≡ hideAnswer la
   pub same-number : number a ≡ number a′
   same-number = sym (hidden-number lane a) ∙ ap number e ∙ hidden-number lane a′
 
+  -- as many slots
+  pub same-long : (out : List ℕ) → length (outAfter a out) ≡ length (outAfter a′ out)
+  same-long out = sym (out-long lane a out) ∙ ap (λ (x : Answer). length (outAfter x out)) e ∙ out-long lane a′ out
+
   pub same-told : (out : List ℕ) (i : ℕ) → (Tells lane a i → ⊥) → at (outAfter a out) i ≡ at (outAfter a′ out) i
-  same-told out i h = sym (out-told lane a out i h) ∙ ap (λ (x : Answer). at (outAfter x out) i) e ∙ out-told lane a′ out i (λ w. h (subst (λ (A : Type 0). A) tells w))
+  same-told out i h =
+      sym (out-told lane a out i h) ∙ ap (λ (x : Answer). at (outAfter x out) i) e
+      ∙ out-told lane a′ out i (λ w. h (subst (λ (A : Type 0). A) tells w))
     where
       tells : Tells lane a′ i ≡ Tells lane a i
       tells = sym (tells-hidden lane a′ i) ∙ ap (λ (x : Answer). Tells lane x i) (sym e) ∙ tells-hidden lane a i
@@ -170,7 +204,9 @@ module _ (lane : ℕ) (a a′ : Answer) (e : hideAnswer lane a ≡ hideAnswer la
 
 -- the slots of a lane's reply and reply counts
 abbrev laneSlots : LaneReply → List ℕ
-laneSlots l = replyKind (l .reply) ∷ (wordSlots (replyNumber (l .reply)) ++ (wordSlots (l .valid) ++ (wordSlots (l .invalid) ++ wordSlots (l .consecutiveInvalid))))
+laneSlots l =
+    replyKind (l .reply)
+    ∷ (wordSlots (replyNumber (l .reply)) ++ (wordSlots (l .valid) ++ (wordSlots (l .invalid) ++ wordSlots (l .consecutiveInvalid))))
 
 abbrev lanesSlots : List LaneReply → List ℕ
 lanesSlots l = fourLists (λ (k : ℕ). laneSlots (getD l k noReplies))
@@ -183,11 +219,13 @@ stored-parts : (b : Bank) → store b ≡ coreSlots (b .core) ++ lanesSlots (b .
 unfolding store
 stored-parts b = refl
 
-pub same-slots : (lane : ℕ) (b b′ : Bank) → hideBank lane b ≡ hideBank lane b′ → (i : ℕ) → (Within (REPLIES + 9 * lane) 9 i → ⊥) → at (store b) i ≡ at (store b′) i
+pub same-slots : (lane : ℕ) (b b′ : Bank) → hideBank lane b ≡ hideBank lane b′ → (i : ℕ) → (TellsSlot lane i → ⊥) → at (store b) i ≡ at (store b′) i
 same-slots lane b b′ e i h =
     ap (λ (l : List ℕ). at l i) (stored-parts b)
-    ∙ parts 61 i (coreSlots (b .core)) (coreSlots (b′ .core)) (lanesSlots (b .replies)) (lanesSlots (b′ .replies)) refl refl (λ p. ap (λ (k : Bank). at (coreSlots (k .core)) i) e)
-    (λ p. four-parts lane 9 (λ (k : ℕ). laneSlots (getD (b .replies) k noReplies)) (λ (k : ℕ). laneSlots (getD (b′ .replies) k noReplies)) (λ k. refl) (λ k. refl)
+    ∙ parts 61 i (coreSlots (b .core)) (coreSlots (b′ .core)) (lanesSlots (b .replies)) (lanesSlots (b′ .replies)) refl refl
+    (λ p. ap (λ (k : Bank). at (coreSlots (k .core)) i) e)
+    (λ p. four-parts lane 9 (λ (k : ℕ). laneSlots (getD (b .replies) k noReplies)) (λ (k : ℕ). laneSlots (getD (b′ .replies) k noReplies))
+    (λ k. refl) (λ k. refl)
     (λ k q. ap laneSlots (hidden-replies lane (b .replies) (b′ .replies) (ap (λ (x : Bank). x .replies) e) k q))
     (i - 61) (λ w. h (omega (arith, p, w .0), omega (arith, p, w .1))))
     ∙ sym (ap (λ (l : List ℕ). at l i) (stored-parts b′))

@@ -3,7 +3,7 @@
 -- Assumes nothing.
 use mathlib.Core.Path.{_≡_, _∙_, refl, sym, ap, subst}
 use mathlib.Core.Bool.{Bool, true, false}
-use mathlib.Core.List.{List, [], _∷_, map}
+use mathlib.Core.List.{List, [], _∷_, _++_, map}
 use Prim.Native.Nat.{ℕ, zero, suc, _<_}
 use native.Mathlib.Omega.{arith}
 use lib.ListN.{length, getD}
@@ -14,18 +14,20 @@ use Rattle.dshot_bank_spec.specs.Calls.{enable-bidirectional, service-call, Sta
 use Rattle.dshot_bank_spec.specs.Steps.{portRefusal, step}
 use Rattle.dshot_bank_spec.specs.Lists.{run, fresh}
 use Rattle.dshot_bank_spec.specs.Hide.{hideState}
+use Rattle.dshot_bank_spec.specs.Claims.{served}
+use Rattle.dshot_bank_spec.proofs.Refusals.{accepted-run}
 use Rattle.dshot_bank_spec.proofs.Storing.{stores}
 use Rattle.dshot_bank_spec.proofs.Decoding.{decodes}
 use Rattle.bank_slots_spec.specs.Load.{load}
 use Rattle.bank_slots_spec.specs.Store.{store}
 use Rattle.bank_slots_spec.specs.Storable.{Storable}
 use Rattle.bank_slots_spec.specs.Called.{Called, stateAt, bankAfter, buffersAfter}
-use Rattle.bank_slots_spec.specs.SlotLists.{Made, made, madeTrace, madeRun, fitting, Shown, Ran, none-left, one-more, leaves, MadeAlike, both-end, both-more}
-use Rattle.bank_slots_spec.specs.SlotClaims.{SameSlots, no-state, one-state, SlotsFollow, SlotsStores}
+use Rattle.bank_slots_spec.specs.SlotLists.{Made, made, madeTrace, madeRun, fitting, Shown, Ran, none-left, one-more, leaves, both-end, both-more, MadeWireAlike}
+use Rattle.bank_slots_spec.specs.SlotClaims.{SameSlots, no-state, one-state, SlotsFollow, serviceMade, stateBefore, bankServed, StoresIn, SlotsStores}
 use Rattle.bank_slots_spec.proofs.Stored.{length-store, load-store, new-fits}
 use Rattle.bank_slots_spec.proofs.CalledStored.{called-stored, called-fits}
 use Rattle.bank_slots_spec.proofs.HiddenSlots.{same-slots}
-use Rattle.bank_slots_spec.proofs.SlotsIsolated.{as-made, made-alike, left}
+use Rattle.bank_slots_spec.proofs.SlotsIsolated.{as-made, holds, made-alike, made-wired, left}
 
 -- ---- every slot follows
 
@@ -54,18 +56,19 @@ follow bank f p = follow-from bank f refl p
 
 -- ---- one lane's captures
 
-slots-alike : (lane : ℕ) {ms ms′ : List Made} → MadeAlike lane ms ms′ → (s s′ : State) → hideState lane s ≡ hideState lane s′
+slots-alike : (lane : ℕ) {ms ms′ : List Made} → MadeWireAlike lane ms ms′ → (s s′ : State) → hideState lane s ≡ hideState lane s′
     → SameSlots lane (stored (madeTrace s ms)) (stored (madeTrace s′ ms′))
 slots-alike lane both-end s s′ e = no-state
 slots-alike lane (both-more {fits = fits} {out = out} {c = c} {c′ = c′} a rest) s s′ e =
     let r = made s (record { fits = fits; call = c; out = out }) in
     let r′ = made s′ (record { fits = fits; call = c′; out = out }) in
     let h = ap (λ (t : Stepped). t .state) (made-alike lane fits out a s s′ e) in
-    one-state (same-slots lane (r .state .bank) (r′ .state .bank) (ap (λ (t : State). t .bank) h)) (slots-alike lane rest (r .state) (r′ .state) h)
+    one-state (length-store (r .state .bank) ∙ sym (length-store (r′ .state .bank)))
+    (same-slots lane (r .state .bank) (r′ .state .bank) (ap (λ (t : State). t .bank) h)) (slots-alike lane rest (r .state) (r′ .state) h)
 
-same : (lane : ℕ) (bank : Bank) → Storable bank → {b : Buffers} {ms ms′ : List Made} {rs rs′ : List Shown} → MadeAlike lane ms ms′
+wires : (lane : ℕ) (bank : Bank) → Storable bank → {b : Buffers} {ms ms′ : List Made} {rs rs′ : List Shown} → MadeWireAlike lane ms ms′
     → (p : Ran (store bank) b ms rs) (q : Ran (store bank) b ms′ rs′) → SameSlots lane (leaves p) (leaves q)
-same lane bank f {b} {ms} {ms′} a p q =
+wires lane bank f {b} {ms} {ms′} a p q =
     let s : State = record { bank = bank; buffers = b } in
     subst (λ (l : List (List ℕ)). SameSlots lane l (leaves q)) (sym (follow bank f p))
     (subst (λ (l : List (List ℕ)). SameSlots lane (stored (madeTrace s ms)) l) (sym (follow bank f q)) (slots-alike lane a s s refl))
@@ -76,17 +79,45 @@ begins : (timing : Timing) (b : Buffers) (ys : List ℕ) → Called true (enable
     → stateAt ys b ≡ fresh 4 timing b
 unfolding bankAfter enableBidirectional step portRefusal
 begins timing b ys c =
-    λ j. record { bank = (c .bank ∙ ap (λ (k : Bank). bankAfter true (record { bank = k; buffers = b }) (enable-bidirectional true)) (load-store (fromLanes 4 timing) (new-fits timing))) j; buffers = b }
+    let k = load-store (fromLanes 4 timing) (new-fits timing) in
+    let e = ap (λ (x : Bank). bankAfter true (record { bank = x; buffers = b }) (enable-bidirectional true)) k in
+    λ j. record { bank = (c .bank ∙ e) j; buffers = b }
 
 pub slots-follow : SlotsFollow
-slots-follow = record { follow = follow; same = same; new = new-fits; begins = begins }
+slots-follow = record { follow = follow; same = λ lane bank f a. wires lane bank f (made-wired a); wires = wires; new = new-fits; begins = begins }
 
 -- ---- what a service stores
 
 pub slots-store : SlotsStores
 slots-store timing b ys ms now taken present masks samples out e = record {
-  is = ap (λ (s : State). step 4 (madeRun s ms) (service-call now taken present masks samples)) e
-      ∙ ap (λ (s : State). step 4 s (service-call now taken present masks samples)) (left (fresh 4 timing b) ms);
-  stores = stores 4 timing b (fitting ms) now taken present masks samples;
-  decodes = decodes 4 timing b (fitting ms) now taken present masks samples;
+  is = is;
+  bank = bank;
+  found = λ rest p. holds ms m rest p .0 ∙ ap (λ (s : State). s .bank) before;
+  left = after;
+  slots = λ rest p. subst (StoresIn timing b ms now taken present masks samples) (sym (after rest p)) bank;
 }
+  where
+    m : Made
+    m = serviceMade now taken present masks samples out
+
+    start : State
+    start = fresh 4 timing b
+
+    ran : madeRun (stateAt ys b) ms ≡ run 4 start (fitting ms)
+    ran = ap (λ (s : State). madeRun s ms) e ∙ left start ms
+
+    before : madeRun (stateAt ys b) ms ≡ stateBefore timing b ms now taken present masks samples
+    before = ran ∙ sym (accepted-run 4 start (fitting ms))
+
+    is : made (madeRun (stateAt ys b) ms) m ≡ served 4 timing b (fitting ms) now taken present masks samples
+    is = ap (λ (s : State). step 4 s (service-call now taken present masks samples)) ran
+
+    after : (rest : List Made) {rs : List Shown} (p : Ran ys b (ms ++ (m ∷ rest)) rs)
+        → load (getD (leaves p) (length ms) []) ≡ bankServed timing b ms now taken present masks samples
+    after rest p = holds ms m rest p .1 ∙ ap (λ (t : Stepped). t .state .bank) is
+
+    bank : StoresIn timing b ms now taken present masks samples (bankServed timing b ms now taken present masks samples)
+    bank = record {
+      stores = stores 4 timing b (fitting ms) now taken present masks samples;
+      decodes = decodes 4 timing b (fitting ms) now taken present masks samples;
+    }

@@ -1,10 +1,11 @@
 -- Demand 3 of lists of exported calls on one state slice: each call shows what the bank's own call does, looks change nothing, and one lane's
--- captures change nothing but that lane's replies and reply counts.
+-- captures, or that it has none, change nothing but that lane's replies and reply counts.
 -- Assumes nothing.
 use mathlib.Core.Path.{_≡_, _∙_, refl, sym, ap, subst}
 use mathlib.Core.Bool.{Bool, true, false}
-use mathlib.Core.List.{List, [], _∷_, map}
+use mathlib.Core.List.{List, [], _∷_, _++_, map}
 use Prim.Native.Nat.{ℕ}
+use lib.ListN.{length, getD}
 use Rattle.dshot_reply_spec.specs.Answer.{pick}
 use Rattle.dshot_reply_spec.specs.Refusals.{wrongLength}
 use Rattle.dshot_reply_spec.specs.Answer as Reply
@@ -13,21 +14,22 @@ use Rattle.dshot_bank_spec.specs.Commands.{enableBidirectional, commandThrottle
 use Rattle.dshot_bank_spec.specs.Calls.{Call, enable-bidirectional, command-stop, command-throttles, command-special, request-telemetry, cancel-telemetry-request, take-telemetry-request-sent, service-call, on-dma-interrupt, take-replies, is-bidirectional, is-faulted, stats, requested-values, command-pending, reply-stats, sending, lend, refused, State, Stepped, told, commanded, act}
 use Rattle.dshot_bank_spec.specs.Steps.{step}
 use Rattle.dshot_bank_spec.specs.Lists.{isLook, run, trace}
-use Rattle.dshot_bank_spec.specs.Hide.{Alike, hide, hideAnswer, hideState}
-use Rattle.dshot_bank_spec.proofs.Isolation.{step-alike}
+use Rattle.dshot_bank_spec.specs.Hide.{WireAlike, hide, hideAnswer, hideState}
+use Rattle.dshot_bank_spec.proofs.Isolation.{as-wired, step-alike}
 use Rattle.dshot_bank_spec.proofs.Refusals.{either-step, looks-keep}
 use Rattle.bank_slots_spec.specs.Load.{load}
 use Rattle.bank_slots_spec.specs.Called.{Called, number, stateAt, answerOf, bankAfter, buffersAfter}
 use Rattle.bank_slots_spec.specs.Outs.{outAfter}
-use Rattle.bank_slots_spec.proofs.HiddenSlots.{same-number, same-told}
-use Rattle.bank_slots_spec.specs.SlotLists.{Made, made, madeTrace, madeRun, Shown, shownBy, shownAll, fitting, fittingOf, actingMade, actingMadeOf, Ran, none-left, one-more, MadeAlike, both-end, both-more}
+use Rattle.bank_slots_spec.proofs.HiddenSlots.{same-number, same-long, same-told}
+use Rattle.bank_slots_spec.specs.SlotLists.{Made, made, madeTrace, madeRun, Shown, shownBy, shownAll, fitting, fittingOf, actingMade, actingMadeOf, Ran, none-left, one-more, leaves, both-end, both-more, MadeAlike, MadeWireAlike}
 use Rattle.bank_slots_spec.specs.SlotClaims.{SameShown, none-shown, one-shown, SlotsIsolated}
 
 -- ---- what is shown
 
 -- what is promised of a call is what `made` says of the loaded state
 pub as-made : (fits : Bool) (call : Call) (out : List ℕ) (s : State)
-    → _≡_ {A = Stepped} (record { answer = answerOf fits s call; state = record { bank = bankAfter fits s call; buffers = buffersAfter fits s call } }) (made s (record { fits = fits; call = call; out = out }))
+    → _≡_ {A = Stepped} (record { answer = answerOf fits s call; state = record { bank = bankAfter fits s call; buffers = buffersAfter fits s call } })
+    (made s (record { fits = fits; call = call; out = out }))
 unfolding answerOf bankAfter buffersAfter
 as-made true call out s = refl
 as-made false call out s = refl
@@ -45,11 +47,32 @@ traced (one-more {ys = ys} {b′ = b′} {m = m} {ms = ms} c e o n w rest) =
     (λ j. record { returned = c .answer j; answer = o j; state = stateAt ys b′ } ∷ traced rest j)
     ∙ ap (λ (t : Stepped). shownBy m t ∷ shownAll ms (madeTrace (t .state) ms)) h
 
+-- ---- the slots that one call finds and leaves
+
+-- those that call m finds, behind the calls ms, hold the bank that ms leave, and those that it leaves hold the bank after its step
+abbrev Holds : (ms : List Made) (m : Made) (rest : List Made) {xs : List ℕ} {b : Buffers} {rs : List Shown} → Ran xs b (ms ++ (m ∷ rest)) rs → Type 0
+Holds ms m rest {xs} {b} p =
+    (load (getD (xs ∷ leaves p) (length ms) []) ≡ madeRun (stateAt xs b) ms .bank)
+    × (load (getD (leaves p) (length ms) []) ≡ made (madeRun (stateAt xs b) ms) m .state .bank)
+
+pub holds : (ms : List Made) (m : Made) (rest : List Made) {xs : List ℕ} {b : Buffers} {rs : List Shown} (p : Ran xs b (ms ++ (m ∷ rest)) rs)
+    → Holds ms m rest p
+holds [] m rest (one-more c e o n w p) = (refl, ap (λ (t : Stepped). t .state .bank) (as-promised m c e))
+holds (k ∷ ms) m rest (one-more {ys = ys} {b′ = b′} c e o n w p) =
+    let h = holds ms m rest p in
+    let s = ap (λ (t : Stepped). t .state) (as-promised k c e) in
+    (h .0 ∙ ap (λ (t : State). madeRun t ms .bank) s, h .1 ∙ ap (λ (t : State). made (madeRun t ms) m .state .bank) s)
+
 -- ---- the calls that fit
 
+-- what `made` says, where it is told whether the slices fit
+abbrev outcome : State → Made → Bool → Stepped
+outcome s m fits = pick fits (step 4 s (m .call)) (told s (refused wrongLength))
+
 one-fitted : (s : State) (m : Made) (ms : List Made) (fits : Bool) → ((t : State) → fittingOf ms (madeTrace t ms) ≡ trace 4 t (fitting ms))
-    → pick fits (pick fits (step 4 s (m .call)) (told s (refused wrongLength)) ∷ fittingOf ms (madeTrace (pick fits (step 4 s (m .call)) (told s (refused wrongLength)) .state) ms))
-    (fittingOf ms (madeTrace (pick fits (step 4 s (m .call)) (told s (refused wrongLength)) .state) ms))
+    → pick fits
+    (outcome s m fits ∷ fittingOf ms (madeTrace (outcome s m fits .state) ms))
+    (fittingOf ms (madeTrace (outcome s m fits .state) ms))
     ≡ trace 4 s (pick fits (m .call ∷ fitting ms) (fitting ms))
 one-fitted s m ms true h = ap (λ (l : List Stepped). step 4 s (m .call) ∷ l) (h (step 4 s (m .call) .state))
 one-fitted s m ms false h = h s
@@ -59,7 +82,7 @@ fitted s [] = refl
 fitted s (m ∷ ms) = one-fitted s m ms (m .fits) (λ t. fitted t ms)
 
 one-left : (s : State) (m : Made) (ms : List Made) (fits : Bool) → ((t : State) → madeRun t ms ≡ run 4 t (fitting ms))
-    → madeRun (pick fits (step 4 s (m .call)) (told s (refused wrongLength)) .state) ms ≡ run 4 s (pick fits (m .call ∷ fitting ms) (fitting ms))
+    → madeRun (outcome s m fits .state) ms ≡ run 4 s (pick fits (m .call ∷ fitting ms) (fitting ms))
 one-left s m ms true h = h (step 4 s (m .call) .state)
 one-left s m ms false h = h s
 
@@ -73,12 +96,14 @@ left s (m ∷ ms) = one-left s m ms (m .fits) (λ t. left t ms)
 made-keeps : (s : State) (m : Made) → isLook (m .call) ≡ true → made s m .state ≡ s
 made-keeps s m e = side (m .fits)
   where
-    side : (fits : Bool) → pick fits (step 4 s (m .call)) (told s (refused wrongLength)) .state ≡ s
+    side : (fits : Bool) → outcome s m fits .state ≡ s
     side true = looks-keep 4 s (m .call) e
     side false = refl
 
-one-look : (s : State) (m : Made) (ms : List Made) (b : Bool) → isLook (m .call) ≡ b → ((t : State) → madeTrace t (actingMade ms) ≡ actingMadeOf ms (madeTrace t ms))
-    → madeTrace s (pick b (actingMade ms) (m ∷ actingMade ms)) ≡ pick b (actingMadeOf ms (madeTrace (made s m .state) ms)) (made s m ∷ actingMadeOf ms (madeTrace (made s m .state) ms))
+one-look : (s : State) (m : Made) (ms : List Made) (b : Bool) → isLook (m .call) ≡ b
+    → ((t : State) → madeTrace t (actingMade ms) ≡ actingMadeOf ms (madeTrace t ms))
+    → madeTrace s (pick b (actingMade ms) (m ∷ actingMade ms))
+    ≡ pick b (actingMadeOf ms (madeTrace (made s m .state) ms)) (made s m ∷ actingMadeOf ms (madeTrace (made s m .state) ms))
 one-look s m ms true e h = h s ∙ ap (λ (t : State). actingMadeOf ms (madeTrace t ms)) (sym (made-keeps s m e))
 one-look s m ms false e h = ap (λ (l : List Stepped). made s m ∷ l) (h (made s m .state))
 
@@ -87,7 +112,8 @@ looks s [] = refl
 looks s (m ∷ ms) = one-look s m ms (isLook (m .call)) refl (λ t. looks t ms)
 
 -- a look's promise, which speaks of its answer alone, is a call that leaves every slot
-pub look-called : {fits : Bool} {call : Call} {b : Buffers} (xs : List ℕ) {r : ℕ} → isLook call ≡ true → r ≡ number (answerOf fits (stateAt xs b) call) → Called fits call b xs xs r
+pub look-called : {fits : Bool} {call : Call} {b : Buffers} (xs : List ℕ) {r : ℕ} → isLook call ≡ true → r ≡ number (answerOf fits (stateAt xs b) call)
+    → Called fits call b xs xs r
 unfolding bankAfter
 look-called {fits} {call} {b} xs l e = record { answer = e; bank = sym (kept fits); stays = λ _. refl; written = λ w. w }
   where
@@ -150,42 +176,50 @@ buffers-kept false s call e = refl
 
 -- ---- one lane's captures
 
-pub made-alike : (lane : ℕ) (fits : Bool) (out : List ℕ) {c c′ : Call} → Alike lane c c′ → (s s′ : State) → hideState lane s ≡ hideState lane s′
+pub made-alike : (lane : ℕ) (fits : Bool) (out : List ℕ) {c c′ : Call} → WireAlike lane c c′ → (s s′ : State) → hideState lane s ≡ hideState lane s′
     → hide lane (made s (record { fits = fits; call = c; out = out })) ≡ hide lane (made s′ (record { fits = fits; call = c′; out = out }))
 made-alike lane true out h s s′ e = step-alike 4 lane h s s′ e
 made-alike lane false out h s s′ e = λ j. record { answer = refused wrongLength; state = e j }
 
-trace-alike : (lane : ℕ) {ms ms′ : List Made} → MadeAlike lane ms ms′ → (s s′ : State) → hideState lane s ≡ hideState lane s′
+trace-alike : (lane : ℕ) {ms ms′ : List Made} → MadeWireAlike lane ms ms′ → (s s′ : State) → hideState lane s ≡ hideState lane s′
     → map (hide lane) (madeTrace s ms) ≡ map (hide lane) (madeTrace s′ ms′)
 trace-alike lane both-end s s′ e = refl
-trace-alike lane (both-more {fits = fits} {out = out} {c = c} {c′ = c′} {ms = ms} {ms′ = ms′} a rest) s s′ e =
+trace-alike lane (both-more {fits = fits} {out = out} {c = c} {c′ = c′} a rest) s s′ e =
     let h = made-alike lane fits out a s s′ e in
-    let t = trace-alike lane rest (made s (record { fits = fits; call = c; out = out }) .state) (made s′ (record { fits = fits; call = c′; out = out }) .state) (ap (λ (r : Stepped). r .state) h) in
+    let r = made s (record { fits = fits; call = c; out = out }) in
+    let r′ = made s′ (record { fits = fits; call = c′; out = out }) in
+    let t = trace-alike lane rest (r .state) (r′ .state) (ap (λ (x : Stepped). x .state) h) in
     λ j. h j ∷ t j
 
-captures : (lane : ℕ) (xs xs′ : List ℕ) (b : Buffers) {ms ms′ : List Made} → load xs ≡ load xs′ → MadeAlike lane ms ms′
+wires : (lane : ℕ) (xs xs′ : List ℕ) (b : Buffers) {ms ms′ : List Made} → load xs ≡ load xs′ → MadeWireAlike lane ms ms′
     → map (hide lane) (madeTrace (stateAt xs b) ms) ≡ map (hide lane) (madeTrace (stateAt xs′ b) ms′)
-captures lane xs xs′ b e a = trace-alike lane a (stateAt xs b) (stateAt xs′ b) (ap (λ (k : Bank). hideState lane (record { bank = k; buffers = b })) e)
+wires lane xs xs′ b e a = trace-alike lane a (stateAt xs b) (stateAt xs′ b) (ap (λ (k : Bank). hideState lane (record { bank = k; buffers = b })) e)
 
 -- ---- what is shown of two such lists
 
-shown-alike : (lane : ℕ) {ms ms′ : List Made} → MadeAlike lane ms ms′ → (s s′ : State) → hideState lane s ≡ hideState lane s′
+shown-alike : (lane : ℕ) {ms ms′ : List Made} → MadeWireAlike lane ms ms′ → (s s′ : State) → hideState lane s ≡ hideState lane s′
     → SameShown lane (madeTrace s ms) (shownAll ms (madeTrace s ms)) (shownAll ms′ (madeTrace s′ ms′))
 shown-alike lane both-end s s′ e = none-shown
-shown-alike lane (both-more {fits = fits} {out = out} {c = c} {c′ = c′} {ms = ms} {ms′ = ms′} a rest) s s′ e =
+shown-alike lane (both-more {fits = fits} {out = out} {c = c} {c′ = c′} a rest) s s′ e =
     let h = made-alike lane fits out a s s′ e in
     let r = made s (record { fits = fits; call = c; out = out }) in
     let r′ = made s′ (record { fits = fits; call = c′; out = out }) in
     let k = ap (λ (t : Stepped). t .answer) h in
-    one-shown (same-number lane (r .answer) (r′ .answer) k) (same-told lane (r .answer) (r′ .answer) k out)
+    one-shown (same-number lane (r .answer) (r′ .answer) k) (ap (λ (t : Stepped). t .state .buffers) h)
+    (same-long lane (r .answer) (r′ .answer) k out) (same-told lane (r .answer) (r′ .answer) k out)
     (shown-alike lane rest (r .state) (r′ .state) (ap (λ (t : Stepped). t .state) h))
 
-shown : (lane : ℕ) {xs xs′ : List ℕ} {b : Buffers} {ms ms′ : List Made} {rs rs′ : List Shown} → load xs ≡ load xs′ → MadeAlike lane ms ms′
+wires-shown : (lane : ℕ) {xs xs′ : List ℕ} {b : Buffers} {ms ms′ : List Made} {rs rs′ : List Shown} → load xs ≡ load xs′ → MadeWireAlike lane ms ms′
     → Ran xs b ms rs → Ran xs′ b ms′ rs′ → SameShown lane (madeTrace (stateAt xs b) ms) rs rs′
-shown lane {xs} {xs′} {b} {ms} {ms′} {rs′ = rs′} e a p q =
+wires-shown lane {xs} {xs′} {b} {ms} {ms′} {rs′ = rs′} e a p q =
     subst (λ (l : List Shown). SameShown lane (madeTrace (stateAt xs b) ms) l rs′) (sym (traced p))
     (subst (λ (l : List Shown). SameShown lane (madeTrace (stateAt xs b) ms) (shownAll ms (madeTrace (stateAt xs b) ms)) l) (sym (traced q))
     (shown-alike lane a (stateAt xs b) (stateAt xs′ b) (ap (λ (k : Bank). hideState lane (record { bank = k; buffers = b })) e)))
+
+-- document 01's lists are a case of these
+pub made-wired : {lane : ℕ} {ms ms′ : List Made} → MadeAlike lane ms ms′ → MadeWireAlike lane ms ms′
+made-wired both-end = both-end
+made-wired (both-more a rest) = both-more (as-wired a) (made-wired rest)
 
 pub slots-isolated : SlotsIsolated
 slots-isolated = record {
@@ -193,6 +227,8 @@ slots-isolated = record {
   fitted = fitted;
   left = left;
   looks = looks;
-  captures = captures;
-  shown = shown;
+  captures = λ lane xs xs′ b e a. wires lane xs xs′ b e (made-wired a);
+  shown = λ lane e a. wires-shown lane e (made-wired a);
+  wires = wires;
+  wires-shown = wires-shown;
 }

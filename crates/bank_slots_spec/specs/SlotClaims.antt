@@ -3,8 +3,8 @@
 use Prim.Native.Nat.{ℕ, _+_, _*_, _%_, _<_, _≤_}
 use mathlib.Core.Path.{_≡_}
 use mathlib.Core.Bool.{Bool, true, false}
-use mathlib.Core.List.{List, [], _∷_, map}
-use lib.ListN.{getD}
+use mathlib.Core.List.{List, [], _∷_, _++_, map}
+use lib.ListN.{length, getD}
 use Rattle.dshot_spec.specs.Timing.{Timing}
 use Rattle.dshot_bank_spec.specs.State.{Bank, Buffers}
 use Rattle.dshot_bank_spec.specs.Commands.{fromLanes}
@@ -18,7 +18,7 @@ use Rattle.bank_slots_spec.specs.Load.{load}
 use Rattle.bank_slots_spec.specs.Store.{store}
 use Rattle.bank_slots_spec.specs.Storable.{Storable}
 use Rattle.bank_slots_spec.specs.Called.{Called, stateAt}
-use Rattle.bank_slots_spec.specs.SlotLists.{Made, made, madeTrace, madeRun, Shown, shownAll, Ran, leaves, fitting, fittingOf, actingMade, actingMadeOf, MadeAlike}
+use Rattle.bank_slots_spec.specs.SlotLists.{Made, made, madeTrace, madeRun, Shown, shownAll, Ran, leaves, fitting, fittingOf, actingMade, actingMadeOf, MadeAlike, MadeWireAlike}
 
 -- ---- what tells of one lane's replies
 
@@ -40,18 +40,25 @@ Tells lane (values v) i = ⊥
 Tells lane (reply-counts r) i = Within (2 * lane) 2 (i % 8)
 Tells lane (slots l) i = ⊥
 
--- two lists of what was shown, for calls that answered so: the same number returned, and the same in every slot that does not tell of the lane
+-- of the slots of a state: the lane's nine
+abbrev pub TellsSlot : ℕ → ℕ → Type 0
+TellsSlot lane i = Within (REPLIES + 9 * lane) 9 i
+
+-- two lists of what was shown, for calls that answered so: the same number returned, the same buffers, as many slots of the answer, and the same in
+-- each that does not tell of the lane
 pub data SameShown (lane : ℕ) : List Stepped → List Shown → List Shown → Type 0 where
   none-shown : SameShown lane [] [] []
   one-shown : {t : Stepped} {r q : Shown} {ts : List Stepped} {rs qs : List Shown}
       → r .returned ≡ q .returned
+      → r .state .buffers ≡ q .state .buffers
+      → length (r .answer) ≡ length (q .answer)
       → ((i : ℕ) → (Tells lane (t .answer) i → ⊥) → at (r .answer) i ≡ at (q .answer) i)
       → SameShown lane ts rs qs → SameShown lane (t ∷ ts) (r ∷ rs) (q ∷ qs)
 
--- two lists of states in slots: the same but for the lane's nine slots
+-- two lists of states in slots: as many slots, and the same but for the lane's nine
 pub data SameSlots (lane : ℕ) : List (List ℕ) → List (List ℕ) → Type 0 where
   no-state : SameSlots lane [] []
-  one-state : {xs ys : List ℕ} {xss yss : List (List ℕ)} → ((i : ℕ) → (Within (REPLIES + 9 * lane) 9 i → ⊥) → at xs i ≡ at ys i)
+  one-state : {xs ys : List ℕ} {xss yss : List (List ℕ)} → length xs ≡ length ys → ((i : ℕ) → (TellsSlot lane i → ⊥) → at xs i ≡ at ys i)
       → SameSlots lane xss yss → SameSlots lane (xs ∷ xss) (ys ∷ yss)
 
 -- ---- what carries over, whatever the slots held at the start
@@ -72,6 +79,11 @@ pub record SlotsIsolated : Type 0 where
   -- and the same number and slots shown, but for those that tell of that lane
   pub shown : (lane : ℕ) {xs xs′ : List ℕ} {b : Buffers} {ms ms′ : List Made} {rs rs′ : List Shown} → load xs ≡ load xs′ → MadeAlike lane ms ms′
       → Ran xs b ms rs → Ran xs′ b ms′ rs′ → SameShown lane (madeTrace (stateAt xs b) ms) rs rs′
+  -- both where the lists may also differ in whether that lane has a capture: more than document 01 asks
+  pub wires : (lane : ℕ) (xs xs′ : List ℕ) (b : Buffers) {ms ms′ : List Made} → load xs ≡ load xs′ → MadeWireAlike lane ms ms′
+      → map (hide lane) (madeTrace (stateAt xs b) ms) ≡ map (hide lane) (madeTrace (stateAt xs′ b) ms′)
+  pub wires-shown : (lane : ℕ) {xs xs′ : List ℕ} {b : Buffers} {ms ms′ : List Made} {rs rs′ : List Shown} → load xs ≡ load xs′ → MadeWireAlike lane ms ms′
+      → Ran xs b ms rs → Ran xs′ b ms′ rs′ → SameShown lane (madeTrace (stateAt xs b) ms) rs rs′
 
 -- ---- and from slots that the library wrote
 
@@ -82,6 +94,9 @@ pub record SlotsFollow : Type 0 where
   -- of two lists alike but in one lane's captures, every slot but the nine of that lane's reply and reply counts
   pub same : (lane : ℕ) (bank : Bank) → Storable bank → {b : Buffers} {ms ms′ : List Made} {rs rs′ : List Shown} → MadeAlike lane ms ms′
       → (p : Ran (store bank) b ms rs) (q : Ran (store bank) b ms′ rs′) → SameSlots lane (leaves p) (leaves q)
+  -- also where the lists may differ in whether that lane has a capture
+  pub wires : (lane : ℕ) (bank : Bank) → Storable bank → {b : Buffers} {ms ms′ : List Made} {rs rs′ : List Shown} → MadeWireAlike lane ms ms′
+      → (p : Ran (store bank) b ms rs) (q : Ran (store bank) b ms′ rs′) → SameSlots lane (leaves p) (leaves q)
   -- a new bank's slots, with the call that sets it to bidirectional, hold the bank at which demand 3's lists start
   pub new : (timing : Timing) → Storable (fromLanes 4 timing)
   pub begins : (timing : Timing) (b : Buffers) (ys : List ℕ) → Called true (enable-bidirectional true) b (store (fromLanes 4 timing)) ys 0
@@ -89,18 +104,37 @@ pub record SlotsFollow : Type 0 where
 
 -- ---- what a service stores, after such a beginning and some calls
 
-module _ (timing : Timing) (b : Buffers) (ys : List ℕ) (ms : List Made) (now : ℕ) (taken present : List Bool) (masks samples out : List ℕ) where
-  pub record SlotsStore : Type 0 where
+-- a service, as a call from C whose slices fit
+abbrev pub serviceMade : ℕ → List Bool → List Bool → List ℕ → List ℕ → List ℕ → Made
+serviceMade now taken present masks samples out = record { fits = true; call = service-call now taken present masks samples; out = out }
+
+module _ (timing : Timing) (b : Buffers) (ms : List Made) (now : ℕ) (taken present : List Bool) (masks samples : List ℕ) where
+  -- the state before the service, and the bank after it, as the bank's claims have them
+  abbrev pub stateBefore : State
+  stateBefore = before 4 timing b (fitting ms) now taken present masks samples
+
+  abbrev pub bankServed : Bank
+  bankServed = served 4 timing b (fitting ms) now taken present masks samples .state .bank
+
+  -- what is claimed of a bank after it, where the lent buffers and captures fit
+  pub record StoresIn (after : Bank) : Type 0 where
+    pub stores : fits 4 stateBefore samples ≡ true → Stored 4 timing b (fitting ms) now taken present masks samples after
+    pub decodes : (lane : ℕ) → fits 4 stateBefore samples ≡ true → reads stateBefore ≡ true → lane < 4 → getD present lane false ≡ true
+        → Decoded 4 timing b (fitting ms) now taken present masks samples after lane
+
+  pub record SlotsStore (ys out : List ℕ) : Type 0 where
     -- the service is the one that the bank's claims speak of
-    pub is : made (madeRun (stateAt ys b) ms) (record { fits = true; call = service-call now taken present masks samples; out = out })
-        ≡ served 4 timing b (fitting ms) now taken present masks samples
-    pub stores : fits 4 (before 4 timing b (fitting ms) now taken present masks samples) samples ≡ true
-        → Stored 4 timing b (fitting ms) now taken present masks samples
-    pub decodes : (lane : ℕ) → fits 4 (before 4 timing b (fitting ms) now taken present masks samples) samples ≡ true
-        → reads (before 4 timing b (fitting ms) now taken present masks samples) ≡ true
-        → lane < 4 → getD present lane false ≡ true
-        → Decoded 4 timing b (fitting ms) now taken present masks samples lane
+    pub is : made (madeRun (stateAt ys b) ms) (serviceMade now taken present masks samples out) ≡ served 4 timing b (fitting ms) now taken present masks samples
+    pub bank : StoresIn bankServed
+    -- in a list that ran, the slots that it found hold the bank before it
+    pub found : (rest : List Made) {rs : List Shown} (p : Ran ys b (ms ++ (serviceMade now taken present masks samples out ∷ rest)) rs)
+        → load (getD (ys ∷ leaves p) (length ms) []) ≡ stateBefore .bank
+    -- and those that it left the bank after it: of the bank in them the same is claimed
+    pub left : (rest : List Made) {rs : List Shown} (p : Ran ys b (ms ++ (serviceMade now taken present masks samples out ∷ rest)) rs)
+        → load (getD (leaves p) (length ms) []) ≡ bankServed
+    pub slots : (rest : List Made) {rs : List Shown} (p : Ran ys b (ms ++ (serviceMade now taken present masks samples out ∷ rest)) rs)
+        → StoresIn (load (getD (leaves p) (length ms) []))
 
 abbrev pub SlotsStores : Type 0
 SlotsStores = (timing : Timing) (b : Buffers) (ys : List ℕ) (ms : List Made) (now : ℕ) (taken present : List Bool) (masks samples out : List ℕ)
-    → stateAt ys b ≡ fresh 4 timing b → SlotsStore timing b ys ms now taken present masks samples out
+    → stateAt ys b ≡ fresh 4 timing b → SlotsStore timing b ms now taken present masks samples ys out

@@ -11,7 +11,7 @@ use Rattle.dshot_bank_spec.specs.State.{Buffers}
 use Rattle.dshot_bank_spec.specs.Calls.{Call, Answer, refused, State, Stepped, told}
 use Rattle.dshot_bank_spec.specs.Steps.{step}
 use Rattle.dshot_bank_spec.specs.Lists.{isLook}
-use Rattle.dshot_bank_spec.specs.Hide.{Alike}
+use Rattle.dshot_bank_spec.specs.Hide.{Alike, WireAlike}
 use Rattle.bank_slots_spec.specs.Storable.{Below}
 use Rattle.bank_slots_spec.specs.Called.{Called, number, stateAt, answerOf, buffersAfter}
 use Rattle.bank_slots_spec.specs.Outs.{outAfter}
@@ -91,8 +91,18 @@ actingMadeOf [] rs = []
 actingMadeOf (m ∷ ms) [] = []
 actingMadeOf (m ∷ ms) (r ∷ rs) = if isLook (m .call) then actingMadeOf ms rs else r ∷ actingMadeOf ms rs
 
+-- ---- lists alike
+
+-- two lists, as long as each other, whose bank's calls are related call by call, and of which all else is the same
+pub data MadeByMade (R : Call → Call → Type 0) : List Made → List Made → Type 0 where
+  both-end : MadeByMade R [] []
+  both-more : {fits : Bool} {out : List ℕ} {c c′ : Call} {ms ms′ : List Made} → R c c′ → MadeByMade R ms ms′
+      → MadeByMade R (record { fits = fits; call = c; out = out } ∷ ms) (record { fits = fits; call = c′; out = out } ∷ ms′)
+
 -- two lists alike but in one lane's captures
-pub data MadeAlike (lane : ℕ) : List Made → List Made → Type 0 where
-  both-end : MadeAlike lane [] []
-  both-more : {fits : Bool} {out : List ℕ} {c c′ : Call} {ms ms′ : List Made} → Alike lane c c′ → MadeAlike lane ms ms′
-      → MadeAlike lane (record { fits = fits; call = c; out = out } ∷ ms) (record { fits = fits; call = c′; out = out } ∷ ms′)
+abbrev pub MadeAlike : ℕ → List Made → List Made → Type 0
+MadeAlike lane = MadeByMade (Alike lane)
+
+-- and in whether that lane has a capture
+abbrev pub MadeWireAlike : ℕ → List Made → List Made → Type 0
+MadeWireAlike lane = MadeByMade (WireAlike lane)

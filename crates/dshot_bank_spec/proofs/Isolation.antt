@@ -1,4 +1,5 @@
--- One lane's captures show in that lane's reply and reply counts alone, and looks change nothing, over every list of calls and for every count of lanes.
+-- One lane's captures, and whether it has one, show in that lane's reply and reply counts alone, and looks change nothing, over every list of calls
+-- and for every count of lanes.
 -- Assumes nothing.
 use mathlib.Core.Path.{_≡_, _∙_, refl, sym, ap}
 use Prim.Native.Nat.{ℕ, _+_, _*_, _<_, _≤_}
@@ -20,7 +21,7 @@ use Rattle.dshot_bank_spec.specs.Service as Service
 use Rattle.dshot_bank_spec.specs.Calls.{Call, enable-bidirectional, command-stop, command-throttles, command-special, request-telemetry, cancel-telemetry-request, take-telemetry-request-sent, service-call, on-dma-interrupt, take-replies, is-bidirectional, is-faulted, stats, requested-values, command-pending, reply-stats, sending, lend, done, refused, replied, reply-counts, State, Stepped, told, changed, commanded, servedStep, repliesOf, repliesTaken, act}
 use Rattle.dshot_bank_spec.specs.Steps.{buffersFit, lengthRefusal, portRefusal, refuseOr, step}
 use Rattle.dshot_bank_spec.specs.Lists.{trace, fresh}
-use Rattle.dshot_bank_spec.specs.Hide.{hide, hideState, hideReplies, hideTaken, Alike, same, captured, AlikeAll, none-left, one-more}
+use Rattle.dshot_bank_spec.specs.Hide.{hide, hideState, hideReplies, hideTaken, CapturesAlike, Alike, same, captured, none-left, one-more, AlikeAll, WireAlike, same-wired, wired, WireAlikeAll}
 use Rattle.dshot_bank_spec.specs.Claims.{Isolated}
 use Rattle.dshot_bank_spec.proofs.Hidden.{hidden-replies}
 use Rattle.dshot_bank_spec.proofs.LaneLaws.{set-tabulate, map-set}
@@ -30,18 +31,17 @@ use Rattle.dshot_bank_spec.proofs.Service.{serviceSend, serviceOpen}
 -- ---- the windows
 
 -- another lane's window is the same where all samples outside this lane's are
-windows : (lane : ℕ) (s s′ : List ℕ) → length s ≡ length s′ → ((i : ℕ) → i < 160 * lane → getD s i 0 ≡ getD s′ i 0)
-    → ((i : ℕ) → 160 * lane + 160 ≤ i → getD s i 0 ≡ getD s′ i 0) → (k : ℕ) → (k ≡ lane → ⊥) → window s k ≡ window s′ k
-windows lane s s′ el lo hi k ne =
-    ext-getD 0 (window s k) (window s′ k) (simp (length-take, length-drop) (rw el))
-    (λ i h. let b : i < 160 = omega (arith, length-take 160 (drop (160 * k) s)) in entry s i b ∙ sides (decLt k lane) i b ∙ sym (entry s′ i b))
+windows : (lane : ℕ) {m m′ s s′ : List ℕ} → CapturesAlike lane m m′ s s′ → (k : ℕ) → (k ≡ lane → ⊥) → window s k ≡ window s′ k
+windows lane {s = s} {s′ = s′} h k ne =
+    ext-getD 0 (window s k) (window s′ k) (simp (length-take, length-drop) (rw (h .long)))
+    (λ i l. let b : i < 160 = omega (arith, length-take 160 (drop (160 * k) s)) in entry s i b ∙ sides (decLt k lane) i b ∙ sym (entry s′ i b))
   where
     entry : (l : List ℕ) (i : ℕ) → i < 160 → getD (window l k) i 0 ≡ getD l (160 * k + i) 0
     entry l i b = getD-take 160 (drop (160 * k) l) i 0 b ∙ getD-drop (160 * k) l i 0
 
     sides : Dec (k < lane) → (i : ℕ) → i < 160 → getD s (160 * k + i) 0 ≡ getD s′ (160 * k + i) 0
-    sides (yes p) i b = lo (160 * k + i) (omega arith)
-    sides (no q) i b = let above : lane < k = omega arith in hi (160 * k + i) (omega arith)
+    sides (yes p) i b = h .before (160 * k + i) (omega arith)
+    sides (no q) i b = let above : lane < k = omega arith in h .after (160 * k + i) (omega arith)
 
 -- ---- a service
 
@@ -58,47 +58,53 @@ picked : {A B : Type 0} (f : A → B) (b : Bool) (x x′ y y′ : A) → f x ≡
 picked f true x x′ y y′ p q = p
 picked f false x x′ y y′ p q = q
 
--- what a service makes of the lane's captures m and s, or m′ and s′, and of the replies before it, r or r′
-module _ (n lane now : ℕ) (taken p : List Bool) (m m′ s s′ : List ℕ) (r r′ : List LaneReply) (b : Buffers)
+-- what a service makes of the lane's captures p, m and s, or p′, m′ and s′, and of the replies before it, r or r′
+module _ (n lane now : ℕ) (taken p p′ : List Bool) (m m′ s s′ : List ℕ) (r r′ : List LaneReply) (b : Buffers)
     (er : hideReplies lane r ≡ hideReplies lane r′)
-    (ew : (k : ℕ) → (k ≡ lane → ⊥) → window s k ≡ window s′ k)
-    (em : (k : ℕ) → (k ≡ lane → ⊥) → getD m k 0 ≡ getD m′ k 0) where
-  abbrev Alikes : (List ℕ → List ℕ → List LaneReply → Served) → Type 0
-  Alikes f = hideServed lane (f m s r) ≡ hideServed lane (f m′ s′ r′)
+    (ep : (k : ℕ) → (k ≡ lane → ⊥) → getD p k false ≡ getD p′ k false)
+    (a : CapturesAlike lane m m′ s s′) where
+  abbrev Alikes : (List Bool → List ℕ → List ℕ → List LaneReply → Served) → Type 0
+  Alikes f = hideServed lane (f p m s r) ≡ hideServed lane (f p′ m′ s′ r′)
 
-  read-alike : (waiting : Bool) → hideReplies lane (readReplies n waiting p m s r) ≡ hideReplies lane (readReplies n waiting p m′ s′ r′)
+  read-alike : (waiting : Bool) → hideReplies lane (readReplies n waiting p m s r) ≡ hideReplies lane (readReplies n waiting p′ m′ s′ r′)
   unfolding readReplies decodeReplies
   read-alike true = set-tabulate n lane noReplies _ _
       (λ k ne.
       let o = hidden-replies lane r r′ er k ne in
-      let w = ew k ne in
-      let t = em k ne in
-      λ j. countReply (readWindow (getD p k false) (w j) (t j)) (o j))
+      let w = windows lane a k ne in
+      let t = a .masks k (omega arith) in
+      let h = ep k ne in
+      λ j. countReply (readWindow (h j) (w j) (t j)) (o j))
   read-alike false = er
 
-  unsent-alike : (k : Skipped) → Alikes (λ x y z. unsent n now taken p x y z b k)
+  unsent-alike : (k : Skipped) → Alikes (λ w x y z. unsent n now taken w x y z b k)
   unsent-alike k = λ j. unsent n now taken p m s (er j) b k
 
-  send-alike : (expired : Bool) (c : Core) → Alikes (λ x y z. serviceSend n now taken p x y z b expired c)
+  send-alike : (expired : Bool) (c : Core) → Alikes (λ w x y z. serviceSend n now taken w x y z b expired c)
   send-alike expired c =
       let h = read-alike (c .frame .repliesWaiting) in
       λ j. Service.sending n now taken p m s r b expired (repliesRead c) (h j)
 
-  open-alike : (expired : Bool) (c : Core) → Alikes (λ x y z. serviceOpen n now taken p x y z b expired c)
+  open-alike : (expired : Bool) (c : Core) → Alikes (λ w x y z. serviceOpen n now taken w x y z b expired c)
   open-alike expired c =
       let k = serviceBusy n now expired c in
-      picked (hideServed lane) (c .frame .busy) (unsent n now taken p m s r b k) (unsent n now taken p m′ s′ r′ b k)
-      (serviceSend n now taken p m s r b expired c) (serviceSend n now taken p m′ s′ r′ b expired c) (unsent-alike k) (send-alike expired c)
+      picked (hideServed lane) (c .frame .busy) (unsent n now taken p m s r b k) (unsent n now taken p′ m′ s′ r′ b k)
+      (serviceSend n now taken p m s r b expired c) (serviceSend n now taken p′ m′ s′ r′ b expired c) (unsent-alike k) (send-alike expired c)
 
-  service-alike : (c : Core) → Alikes (λ x y z. serviceCore n now taken p x y z b c)
+  service-alike : (c : Core) → Alikes (λ w x y z. serviceCore n now taken w x y z b c)
   unfolding serviceCore
   service-alike c =
       let c₀ = clearRequestSent c in
       let k = skipped Service.faulted [] c₀ in
       let expired = demandExpired now (c₀ .demand) in
       let c₁ = expireLease n expired c₀ in
-      picked (hideServed lane) (c₀ .frame .faulted) (unsent n now taken p m s r b k) (unsent n now taken p m′ s′ r′ b k)
-      (serviceOpen n now taken p m s r b expired c₁) (serviceOpen n now taken p m′ s′ r′ b expired c₁) (unsent-alike k) (open-alike expired c₁)
+      picked (hideServed lane) (c₀ .frame .faulted) (unsent n now taken p m s r b k) (unsent n now taken p′ m′ s′ r′ b k)
+      (serviceOpen n now taken p m s r b expired c₁) (serviceOpen n now taken p′ m′ s′ r′ b expired c₁) (unsent-alike k) (open-alike expired c₁)
+
+-- ---- captures that are the same
+
+same-captures : {lane : ℕ} {m s : List ℕ} → CapturesAlike lane m m s s
+same-captures = record { long = refl; before = λ i l. refl; after = λ i l. refl; masks = λ i ne. refl }
 
 -- ---- one call, from two states that are alike
 
@@ -125,17 +131,15 @@ module _ (n lane : ℕ) (s s′ : State) (e : hideState lane s ≡ hideState lan
   commanded-alike : (f : Core → Reply.Answer Core) → hide lane (commanded s (f (s .bank .core))) ≡ hide lane (commanded s′ (f (s′ .bank .core)))
   commanded-alike f = answered-alike (f (s .bank .core)) ∙ ap (λ (x : State). hide lane (commanded s′ (f (x .bank .core)))) e
 
-  serve-alike : (now : ℕ) (taken p : List Bool) (m m′ x x′ : List ℕ) → length x ≡ length x′
-      → ((k : ℕ) → (k ≡ lane → ⊥) → window x k ≡ window x′ k)
-      → ((k : ℕ) → (k ≡ lane → ⊥) → getD m k 0 ≡ getD m′ k 0)
-      → AlikeActs (service-call now taken p m x) (service-call now taken p m′ x′)
+  serve-alike : (now : ℕ) (taken p p′ : List Bool) {m m′ x x′ : List ℕ} → ((k : ℕ) → (k ≡ lane → ⊥) → getD p k false ≡ getD p′ k false)
+      → CapturesAlike lane m m′ x x′ → AlikeActs (service-call now taken p m x) (service-call now taken p′ m′ x′)
   unfolding portRefusal
-  serve-alike now taken p m m′ x x′ el ew em =
+  serve-alike now taken p p′ {m} {m′} {x} {x′} ep a =
       let r = s .bank .replies in
       let r′ = s′ .bank .replies in (
-        λ j. lengthRefusal (pick (buffersFit n (e j .buffers)) (eqb (el j) (160 * n)) false) 0,
-        ap (servedStep s) (service-alike n lane now taken p m m′ x x′ r r′ (s .buffers) old ew em (s .bank .core))
-            ∙ ap (λ (z : State). hide lane (servedStep z (serviceCore n now taken p m′ x′ r′ (z .buffers) (z .bank .core)))) e,
+        λ j. lengthRefusal (pick (buffersFit n (e j .buffers)) (eqb (a .long j) (160 * n)) false) 0,
+        ap (servedStep s) (service-alike n lane now taken p p′ m m′ x x′ r r′ (s .buffers) old ep a (s .bank .core))
+            ∙ ap (λ (z : State). hide lane (servedStep z (serviceCore n now taken p′ m′ x′ r′ (z .buffers) (z .bank .core)))) e,
       )
 
   -- a list of the lanes' fields, with the lane hidden
@@ -174,7 +178,7 @@ module _ (n lane : ℕ) (s s′ : State) (e : hideState lane s ≡ hideState lan
   same-alike (request-telemetry motor) = (refl, commanded-alike (requestTelemetry motor))
   same-alike cancel-telemetry-request = (refl, act-hidden cancel-telemetry-request)
   same-alike take-telemetry-request-sent = (refl, act-hidden take-telemetry-request-sent)
-  same-alike (service-call now taken p m x) = serve-alike now taken p m m x x refl (λ k ne. refl) (λ k ne. refl)
+  same-alike (service-call now taken p m x) = serve-alike now taken p p (λ k ne. refl) same-captures
   same-alike (on-dma-interrupt motor a b c d) = (refl, act-hidden (on-dma-interrupt motor a b c d))
   same-alike take-replies = (refl, take-alike)
   same-alike is-bidirectional = (refl, act-hidden is-bidirectional)
@@ -188,14 +192,14 @@ module _ (n lane : ℕ) (s s′ : State) (e : hideState lane s ≡ hideState lan
 
 -- ---- lists of calls
 
-pub step-alike : (n lane : ℕ) {c c′ : Call} → Alike lane c c′ → (s s′ : State) → hideState lane s ≡ hideState lane s′
+pub step-alike : (n lane : ℕ) {c c′ : Call} → WireAlike lane c c′ → (s s′ : State) → hideState lane s ≡ hideState lane s′
     → hide lane (step n s c) ≡ hide lane (step n s′ c′)
-step-alike n lane (same c) s s′ e = alike-step n lane s s′ e c c (same-alike n lane s s′ e c)
-step-alike n lane (captured now taken present {m = m} {m′ = m′} {s = x} {s′ = x′} el lo hi em) s s′ e =
-    alike-step n lane s s′ e (service-call now taken present m x) (service-call now taken present m′ x′)
-    (serve-alike n lane s s′ e now taken present m m′ x x′ el (windows lane x x′ el lo hi) em)
+step-alike n lane (same-wired c) s s′ e = alike-step n lane s s′ e c c (same-alike n lane s s′ e c)
+step-alike n lane (wired now taken {p = p} {p′ = p′} {m = m} {m′ = m′} {s = x} {s′ = x′} ep a) s s′ e =
+    alike-step n lane s s′ e (service-call now taken p m x) (service-call now taken p′ m′ x′)
+    (serve-alike n lane s s′ e now taken p p′ (λ k ne. ep k (omega arith)) a)
 
-trace-alike : (n lane : ℕ) {cs cs′ : List Call} → AlikeAll lane cs cs′ → (s s′ : State) → hideState lane s ≡ hideState lane s′
+trace-alike : (n lane : ℕ) {cs cs′ : List Call} → WireAlikeAll lane cs cs′ → (s s′ : State) → hideState lane s ≡ hideState lane s′
     → map (hide lane) (trace n s cs) ≡ map (hide lane) (trace n s′ cs′)
 trace-alike n lane none-left s s′ e = refl
 trace-alike n lane (one-more {c} {c′} a rest) s s′ e =
@@ -204,9 +208,22 @@ trace-alike n lane (one-more {c} {c′} a rest) s s′ e =
     λ j. h j ∷ t j
 
 -- from any start
-pub isolated-from : (n lane : ℕ) (start : State) (calls calls′ : List Call) → AlikeAll lane calls calls′
+pub isolated-from : (n lane : ℕ) (start : State) (calls calls′ : List Call) → WireAlikeAll lane calls calls′
     → map (hide lane) (trace n start calls) ≡ map (hide lane) (trace n start calls′)
 isolated-from n lane start calls calls′ h = trace-alike n lane h start start refl
 
+-- document 01's lists are a case of these
+pub as-wired : {lane : ℕ} {c c′ : Call} → Alike lane c c′ → WireAlike lane c c′
+as-wired (same c) = same-wired c
+as-wired (captured now taken present a) = wired now taken (λ i ne. refl) a
+
+all-wired : {lane : ℕ} {cs cs′ : List Call} → AlikeAll lane cs cs′ → WireAlikeAll lane cs cs′
+all-wired none-left = none-left
+all-wired (one-more a rest) = one-more (as-wired a) (all-wired rest)
+
 pub isolated : Isolated
-isolated = record { captures = λ n lane timing buffers. isolated-from n lane (fresh n timing buffers); looks = λ n timing buffers. looks-leave-out n (fresh n timing buffers) }
+isolated = record {
+  captures = λ n lane timing buffers calls calls′ h. isolated-from n lane (fresh n timing buffers) calls calls′ (all-wired h);
+  wires = λ n lane timing buffers. isolated-from n lane (fresh n timing buffers);
+  looks = λ n timing buffers. looks-leave-out n (fresh n timing buffers);
+}

@@ -15,18 +15,21 @@ use Rattle.dshot_reply_spec.specs.Render.{Renders, Damaged}
 use Rattle.dshot_reply_spec.specs.Move.{Moved}
 use Rattle.dshot_reply_spec.specs.Claims.{MovedEdge}
 use Rattle.dshot_spec.specs.Timing.{Timing}
-use Rattle.dshot_bank_spec.specs.State.{Buffers}
+use Rattle.dshot_bank_spec.specs.State.{Bank, Buffers}
 use Rattle.dshot_bank_spec.specs.Commands.{noReplies}
 use Rattle.dshot_bank_spec.specs.Replies.{window, readWindow, countReply}
 use Rattle.dshot_bank_spec.specs.Calls.{Call, service-call, State, Stepped}
 use Rattle.dshot_bank_spec.specs.Steps.{serviceFits, step}
 use Rattle.dshot_bank_spec.specs.Lists.{trace, run, sourceRun, fresh, isRefused, isLook, acting, actingOf, accepted, acceptedOf}
-use Rattle.dshot_bank_spec.specs.Hide.{hide, AlikeAll}
+use Rattle.dshot_bank_spec.specs.Hide.{hide, AlikeAll, WireAlikeAll}
 
 -- 1: two lists alike but in one lane's captures give, after each call, the same answer, bank and buffers, with that lane's reply and reply counts
 -- hidden; and the calls that only look change nothing, wherever they stand: without them a list has the rest of its trace
 pub record Isolated : Type 0 where
   pub captures : (n lane : ℕ) (timing : Timing) (buffers : Buffers) (calls calls′ : List Call) → AlikeAll lane calls calls′
+      → map (hide lane) (trace n (fresh n timing buffers) calls) ≡ map (hide lane) (trace n (fresh n timing buffers) calls′)
+  -- the same where the lists may also differ in whether that lane has a capture: more than document 01 asks
+  pub wires : (n lane : ℕ) (timing : Timing) (buffers : Buffers) (calls calls′ : List Call) → WireAlikeAll lane calls calls′
       → map (hide lane) (trace n (fresh n timing buffers) calls) ≡ map (hide lane) (trace n (fresh n timing buffers) calls′)
   pub looks : (n : ℕ) (timing : Timing) (buffers : Buffers) (calls : List Call)
       → trace n (fresh n timing buffers) (acting calls) ≡ actingOf calls (trace n (fresh n timing buffers) calls)
@@ -56,6 +59,10 @@ reads s =
 abbrev pub fits : ℕ → State → List ℕ → Bool
 fits n s samples = serviceFits n (length (s .buffers .first)) (length (s .buffers .second)) (length samples)
 
+-- a lane's reply
+abbrev pub reply : Bank → ℕ → Reply.Answer Reading
+reply b lane = getD (b .replies) lane noReplies .reply
+
 module _ (n : ℕ) (timing : Timing) (buffers : Buffers) (calls : List Call) (now : ℕ) (taken present : List Bool) (masks samples : List ℕ) where
   -- the state before the service that follows some calls, told by the source alone, run over those of the calls that are not refused
   abbrev pub before : State
@@ -65,37 +72,35 @@ module _ (n : ℕ) (timing : Timing) (buffers : Buffers) (calls : List Call) (no
   abbrev pub served : Stepped
   served = step n (run n (fresh n timing buffers) calls) (service-call now taken present masks samples)
 
-  -- a lane's reply after it
-  abbrev pub reply : ℕ → Reply.Answer Reading
-  reply lane = getD (served .state .bank .replies) lane noReplies .reply
-
-  -- 3: where the service reads, each lane's reply is just what the reader makes of its window and mask, with the lane's counts, and all are there to
-  -- be taken; where it does not, each lane's reply and counts stay
-  pub record Stored : Type 0 where
+  -- 3, of the bank after it: where the service reads, each lane's reply is just what the reader makes of its window and mask, with the lane's counts,
+  -- and all are there to be taken; where it does not, each lane's reply and counts stay
+  pub record Stored (after : Bank) : Type 0 where
     pub lanes : (lane : ℕ) → lane < n
-        → getD (served .state .bank .replies) lane noReplies
+        → getD (after .replies) lane noReplies
         ≡ (if reads before
         then countReply (readWindow (getD present lane false) (window samples lane) (getD masks lane 0)) (getD (before .bank .replies) lane noReplies)
         else getD (before .bank .replies) lane noReplies)
-    pub replies : reads before ≡ true → (lane : ℕ) → lane < n → reply lane ≡ readWindow (getD present lane false) (window samples lane) (getD masks lane 0)
-    pub held : reads before ≡ true → served .state .bank .core .frame .repliesHeld ≡ true
+    pub replies : reads before ≡ true → (lane : ℕ) → lane < n
+        → reply after lane ≡ readWindow (getD present lane false) (window samples lane) (getD masks lane 0)
+    pub held : reads before ≡ true → after .core .frame .repliesHeld ≡ true
 
   -- 4: what a service that reads stores of a lane whose capture is present: of a capture that renders a value's reply, that value (or 11); of one
   -- damaged within one symbol, a refusal of 7 to 10; of one with one edge moved, what the reader's theorem says
-  pub record Decoded (lane : ℕ) : Type 0 where
-    pub rendered : (v : ℕ) → Renders 3 (levels (getD masks lane 0) (window samples lane)) (replyWord v) → reply lane ≡ replyOf v false
-    pub damaged : (v w′ p : ℕ) → Damaged (replyWord v) w′ p → Renders 3 (levels (getD masks lane 0) (window samples lane)) w′ → Rejected (reply lane)
-    pub moved : (v w′ i j : ℕ) → Moved (replyWord v) w′ i j → Renders 3 (levels (getD masks lane 0) (window samples lane)) w′ → MovedEdge v w′ false (reply lane)
+  pub record Decoded (after : Bank) (lane : ℕ) : Type 0 where
+    pub rendered : (v : ℕ) → Renders 3 (levels (getD masks lane 0) (window samples lane)) (replyWord v) → reply after lane ≡ replyOf v false
+    pub damaged : (v w′ p : ℕ) → Damaged (replyWord v) w′ p → Renders 3 (levels (getD masks lane 0) (window samples lane)) w′ → Rejected (reply after lane)
+    pub moved : (v w′ i j : ℕ) → Moved (replyWord v) w′ i j → Renders 3 (levels (getD masks lane 0) (window samples lane)) w′
+        → MovedEdge v w′ false (reply after lane)
 
 -- of each service of each list whose lent buffers have the right lengths
 abbrev pub Stores : Type 0
 Stores = (n : ℕ) (timing : Timing) (buffers : Buffers) (calls : List Call) (now : ℕ) (taken present : List Bool) (masks samples : List ℕ)
     → fits n (before n timing buffers calls now taken present masks samples) samples ≡ true
-    → Stored n timing buffers calls now taken present masks samples
+    → Stored n timing buffers calls now taken present masks samples (served n timing buffers calls now taken present masks samples .state .bank)
 
 abbrev pub Decodes : Type 0
 Decodes = (n : ℕ) (timing : Timing) (buffers : Buffers) (calls : List Call) (now : ℕ) (taken present : List Bool) (masks samples : List ℕ) (lane : ℕ)
     → fits n (before n timing buffers calls now taken present masks samples) samples ≡ true
     → reads (before n timing buffers calls now taken present masks samples) ≡ true
     → lane < n → getD present lane false ≡ true
-    → Decoded n timing buffers calls now taken present masks samples lane
+    → Decoded n timing buffers calls now taken present masks samples (served n timing buffers calls now taken present masks samples .state .bank) lane

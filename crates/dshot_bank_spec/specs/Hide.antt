@@ -3,7 +3,7 @@
 -- Assumes nothing.
 use Prim.Native.Nat.{ℕ, _+_, _*_, _<_, _≤_}
 use mathlib.Core.Path.{_≡_}
-use mathlib.Core.Bool.{Bool}
+use mathlib.Core.Bool.{Bool, false}
 use mathlib.Core.List.{List, [], _∷_}
 use mathlib.Core.Option.{Option, none, some}
 use lib.ListN.{length, getD, set}
@@ -50,16 +50,36 @@ hide lane r = record { answer = hideAnswer lane (r .answer); state = hideState l
 
 -- ---- lists alike but in one lane's captures
 
+-- two lists of calls, as long as each other, and related call by call
+pub data CallByCall (R : Call → Call → Type 0) : List Call → List Call → Type 0 where
+  none-left : CallByCall R [] []
+  one-more : {c c′ : Call} {cs cs′ : List Call} → R c c′ → CallByCall R cs cs′ → CallByCall R (c ∷ cs) (c′ ∷ cs′)
+
+-- the masks and samples of two services, alike but in the lane's mask and window
+pub record CapturesAlike (lane : ℕ) (m m′ s s′ : List ℕ) : Type 0 where
+  pub long : length s ≡ length s′
+  pub before : (i : ℕ) → i < 160 * lane → getD s i 0 ≡ getD s′ i 0
+  pub after : (i : ℕ) → 160 * lane + 160 ≤ i → getD s i 0 ≡ getD s′ i 0
+  pub masks : (i : ℕ) → (i ≡ lane → ⊥) → getD m i 0 ≡ getD m′ i 0
+
 -- two calls alike: the same, or two services that differ in the lane's window and mask alone
 pub data Alike (lane : ℕ) : Call → Call → Type 0 where
   same : (c : Call) → Alike lane c c
-  captured : (now : ℕ) (taken present : List Bool) {m m′ s s′ : List ℕ}
-      → length s ≡ length s′
-      → ((i : ℕ) → i < 160 * lane → getD s i 0 ≡ getD s′ i 0)
-      → ((i : ℕ) → 160 * lane + 160 ≤ i → getD s i 0 ≡ getD s′ i 0)
-      → ((i : ℕ) → (i ≡ lane → ⊥) → getD m i 0 ≡ getD m′ i 0)
+  captured : (now : ℕ) (taken present : List Bool) {m m′ s s′ : List ℕ} → CapturesAlike lane m m′ s s′
       → Alike lane (service-call now taken present m s) (service-call now taken present m′ s′)
 
-pub data AlikeAll (lane : ℕ) : List Call → List Call → Type 0 where
-  none-left : AlikeAll lane [] []
-  one-more : {c c′ : Call} {cs cs′ : List Call} → Alike lane c c′ → AlikeAll lane cs cs′ → AlikeAll lane (c ∷ cs) (c′ ∷ cs′)
+abbrev pub AlikeAll : ℕ → List Call → List Call → Type 0
+AlikeAll lane = CallByCall (Alike lane)
+
+-- ---- and in whether that lane has a capture
+
+-- added to document 01's "alike", for a reply wire that is pulled: the two services may also differ in whether the lane's capture is present
+pub data WireAlike (lane : ℕ) : Call → Call → Type 0 where
+  same-wired : (c : Call) → WireAlike lane c c
+  wired : (now : ℕ) (taken : List Bool) {p p′ : List Bool} {m m′ s s′ : List ℕ}
+      → ((i : ℕ) → (i ≡ lane → ⊥) → getD p i false ≡ getD p′ i false)
+      → CapturesAlike lane m m′ s s′
+      → WireAlike lane (service-call now taken p m s) (service-call now taken p′ m′ s′)
+
+abbrev pub WireAlikeAll : ℕ → List Call → List Call → Type 0
+WireAlikeAll lane = CallByCall (WireAlike lane)
