@@ -148,7 +148,7 @@ unfolding outAfter
 out-long lane done out = refl
 out-long lane (Call.refused n) out = refl
 out-long lane (motor-sent m) out = refl
-out-long lane (serviced e o) out = refl
+out-long lane (serviced e o s) out = refl
 out-long lane (interrupted e o) out = refl
 out-long lane (replied r) out = taken-long lane r
 out-long lane (flag b) out = refl

@@ -18,3 +18,5 @@ pub mod HiddenSlots
 pub mod SlotsIsolated
 pub mod SlotsFollow
 pub mod SlotMeanings
+pub mod TellsOnly
+pub mod MadeInhabited

@@ -70,7 +70,7 @@ abbrev pub tellsReplies : Answer → Bool
 tellsReplies done = false
 tellsReplies (refused number) = false
 tellsReplies (motor-sent m) = false
-tellsReplies (serviced e o) = false
+tellsReplies (serviced e o s) = false
 tellsReplies (interrupted e o) = false
 tellsReplies (replied r) = true
 tellsReplies (flag b) = false
@@ -87,7 +87,7 @@ kept : (lane : ℕ) (a : Answer) → Kept lane a
 kept lane done = (refl, λ h. refl)
 kept lane (refused number) = (refl, λ h. refl)
 kept lane (motor-sent m) = (refl, λ h. refl)
-kept lane (serviced e o) = (refl, λ h. refl)
+kept lane (serviced e o s) = (refl, λ h. refl)
 kept lane (interrupted e o) = (refl, λ h. refl)
 kept lane (replied r) = (refl, λ h. cc)
 kept lane (flag b) = (refl, λ h. refl)

@@ -2,6 +2,7 @@ pub mod LaneLaws
 pub mod Refusals
 pub mod Service
 pub mod Isolation
+pub mod AlikeInhabited
 pub mod Storing
 pub mod Decoding
 pub mod Written
