@@ -35,6 +35,9 @@
 extern "C" {
 #endif
 
+/* Since 0.1.0: if no replies are held, each lane has 7 NO_REPLY, and no zeros. An order to exchange names its buffer. The
+ * places of a state's fields are no longer told, and its stored replies have the kinds of readings. If a run's index is
+ * above 1 in a state, it is spent, however large. */
 #define KUZHENGA_VERSION_MAJOR 0
 #define KUZHENGA_VERSION_MINOR 2
 #define KUZHENGA_VERSION_PATCH 0
@@ -260,7 +263,8 @@ uint32_t kuzhenga_command_lease_expired(uint64_t started_ms, uint32_t duration_m
  *
  * A bank begins with kuzhenga_bank_from_lanes. Its state is 97 BANK_SLOTS that the host keeps and lends to each call.
  * What they hold is the library's own, and may change with the version. A host may copy, compare and keep them. Any
- * contents are some bank. Times are milliseconds of one clock, which may wrap.
+ * contents are some bank. If the library never wrote them, the exact slot values after a call are not promised; what
+ * bank they are is. Times are milliseconds of one clock, which may wrap.
  *
  * The hardware's answers come with a call, and the orders to it leave in the answer, to be done in their order. An
  * answer that a call does not ask for counts for nothing. Some are asked for before the order: whether a lane takes its

@@ -1,6 +1,6 @@
 // Added: the exported calls on a bank whose state the host keeps in slots. They wrap those of the crate `bank_slots`.
 //
-// A bank takes 97 slots; `include/kuzhenga.h` says what each holds.
+// A bank takes 97 slots, whose contents are the library's own.
 
 use bank_slots::commands;
 use bank_slots::interrupt;
