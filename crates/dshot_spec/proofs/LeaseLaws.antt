@@ -1,30 +1,37 @@
--- When a lease has expired: by a later clock, by an earlier one, and by a clock that wrapped.
+-- When a lease has expired: exactly where more than the lease has passed; by a later clock, by an earlier one, and by a clock that wrapped.
 -- Assumes nothing.
-use mathlib.Core.Path.{_≡_, ap, _∙_}
-use mathlib.Core.Bool.{true}
-use Prim.Native.Nat.{ℕ, _+_, _-_, _*_, _%_, _^_, _<_, _≤_}
-use native.Mathlib.Nat.{mod-eq-of-lt}
+use mathlib.Core.Path.{_≡_, ap}
+use mathlib.Core.Bool.{true, false}
+use mathlib.Core.Logic.{_↔_}
+use Prim.Native.Nat.{ℕ, _+_, _%_, _^_, _<_, _≤_}
 use native.Mathlib.Omega.{arith}
-use lib.Arith.{digits-mod}
 use lib.Dec.{ltb}
-use borrow.Author.Tests.{lt-ltb}
+use borrow.Author.Tests.{lt-ltb, ltb-true, le-ltb, ltb-false}
 use Rattle.dshot_spec.specs.Lease.{elapsed, leaseExpired}
+use Rattle.dshot_spec.proofs.ElapsedLaws.{passed, wrapped, elapsed-after}
+
+-- document 01: "expired unless the wrapped difference is within the lease"; `command_lease_expired`
+module _ (started duration now : ℕ) where
+  -- a lease is not expired exactly where the wrapped difference of the clocks is within it
+  pub lease-within : (leaseExpired started duration now ≡ false) ↔ (elapsed 64 started now ≤ duration)
+  unfolding leaseExpired
+  lease-within = (ltb-false duration (elapsed 64 started now), le-ltb duration (elapsed 64 started now))
+
+  -- and expired exactly where that is above it
+  pub lease-above : (leaseExpired started duration now ≡ true) ↔ (duration < elapsed 64 started now)
+  unfolding leaseExpired
+  lease-above = (ltb-true duration (elapsed 64 started now), lt-ltb duration (elapsed 64 started now))
+
+-- so k milliseconds after its start it is expired just where k is above the duration, whether the clock has wrapped or not
+pub lease-after : (started duration k : ℕ) → started < 2 ^ 64 → k < 2 ^ 64 → leaseExpired started duration ((started + k) % 2 ^ 64) ≡ ltb duration k
+unfolding leaseExpired
+lease-after started duration k small l = ap (ltb duration) (elapsed-after 64 started small k l)
 
 module _ (started duration now : ℕ) (small : started < 2 ^ 64) (clock : now < 2 ^ 64) where
-  -- a clock at or after the start: the time that has passed
-  passed : started ≤ now → elapsed 64 started now ≡ now - started
-  passed h = let e : now + (2 ^ 64 - started) ≡ 1 * 2 ^ 64 + (now - started) = omega arith in ap (λ (n : ℕ). n % 2 ^ 64) e ∙ digits-mod 1 {m = 2 ^ 64} {r = now - started} (omega arith)
-
-  -- a clock before it: the time until the clock would wrap to it
-  wrapped : now < started → elapsed 64 started now ≡ now + (2 ^ 64 - started)
-  wrapped h = mod-eq-of-lt (omega arith)
-
   -- a later clock is expired once more than the lease has passed
   pub later-expired : started + duration < now → leaseExpired started duration now ≡ true
-  unfolding leaseExpired
-  later-expired h = ap (ltb duration) (passed (omega arith)) ∙ lt-ltb duration (now - started) (omega arith)
+  later-expired h = lease-above started duration now .1 (omega (arith, passed 64 started small now clock (omega arith)))
 
   -- a clock before the start counts as expired, but where the subtraction wraps into the lease
   pub earlier-expired : now < started → started + duration < 2 ^ 64 + now → leaseExpired started duration now ≡ true
-  unfolding leaseExpired
-  earlier-expired h l = ap (ltb duration) (wrapped h) ∙ lt-ltb duration (now + (2 ^ 64 - started)) (omega arith)
+  earlier-expired h l = lease-above started duration now .1 (omega (arith, wrapped 64 started small now h))

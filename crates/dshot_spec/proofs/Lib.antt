@@ -5,4 +5,5 @@ pub mod SequenceReads
 pub mod CommandRuns
 pub mod FrameDocuments
 pub mod FixedPoints
+pub mod ElapsedLaws
 pub mod LeaseLaws
