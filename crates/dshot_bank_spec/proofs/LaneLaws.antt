@@ -64,7 +64,7 @@ module _ {A : Type 0} {n : ℕ} {p : A → Bool} {d : A} {v : List A} where
   passed-more h l e = record { within = omega arith; long = h .long; none = below-more _ _ (h .none) e }
 
 module _ {A : Type 0} (p : A → Bool) (d : A) where
-  any-at : (v : List A) (i : ℕ) → i < length v → p (getD v i d) ≡ true → true ≡ any p v
+  pub any-at : (v : List A) (i : ℕ) → i < length v → p (getD v i d) ≡ true → true ≡ any p v
   unfolding any
   any-at [] i h e = absurd (omega arith)
   any-at (x ∷ xs) zero h e = on _ _ e refl
@@ -74,7 +74,7 @@ module _ {A : Type 0} (p : A → Bool) (d : A) where
       later true r = refl
       later false r = r
 
-  none-at : (v : List A) → ((k : ℕ) → k < length v → p (getD v k d) ≡ false) → false ≡ any p v
+  pub none-at : (v : List A) → ((k : ℕ) → k < length v → p (getD v k d) ≡ false) → false ≡ any p v
   unfolding any
   none-at [] h = refl
   none-at (x ∷ xs) h = off _ _ (h 0 (omega arith)) (none-at xs (λ k l. h (suc k) (omega arith)))

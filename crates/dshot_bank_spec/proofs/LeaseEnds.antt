@@ -21,7 +21,7 @@ use Rattle.dshot_bank_spec.specs.LeaseClaim.{noThrottle, LeaseEnds}
 use Rattle.dshot_bank_spec.proofs.LaneLaws.{either}
 
 -- reading replies leaves what is not of the frame
-read-keeps : {A : Type 0} (g : Core → A) → ((f : Frame) (c : Core) → g (withFrame f c) ≡ g c) → (c : Core) → g (repliesRead c) ≡ g c
+pub read-keeps : {A : Type 0} (g : Core → A) → ((f : Frame) (c : Core) → g (withFrame f c) ≡ g c) → (c : Core) → g (repliesRead c) ≡ g c
 unfolding repliesRead
 read-keeps g k c = either (λ (x : Core). g x ≡ g c) (c .frame .repliesWaiting) (k (withRepliesHeld true (withRepliesWaiting false (c .frame))) c) refl
 

@@ -9,3 +9,14 @@ pub mod Written
 pub mod SentReads
 pub mod LeaseEnds
 pub mod Hidden
+pub mod PortLaws
+pub mod ThrottleLaws
+pub mod QueueLaws
+pub mod TelemetryLaws
+pub mod FaultLaws
+pub mod ServiceLaws
+pub mod SendLaws
+pub mod CarriedLaws
+pub mod LeaseHolds
+pub mod RunKept
+pub mod RunLaws

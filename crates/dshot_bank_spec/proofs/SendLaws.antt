@@ -1,0 +1,115 @@
+-- What a service that comes to send leaves: where every lane takes its buffer, and where one refuses it. For every count of lanes and every state.
+-- Assumes nothing.
+use mathlib.Core.Path.{_≡_, _∙_, refl, sym, ap, subst}
+use Prim.Native.Nat.{ℕ, _<_, _≤_}
+use mathlib.Core.Bool.{Bool, true, false, not}
+use mathlib.Core.List.{List}
+use borrow.Author.Tests.{lt-ltb, le-ltb}
+use Rattle.dshot_reply_spec.specs.Answer.{pick}
+use Rattle.dshot_bank_spec.specs.Lanes.{position}
+use Rattle.dshot_bank_spec.specs.State.{Stats, Core, LaneReply, Buffers}
+use Rattle.dshot_bank_spec.specs.With.{withLeaseExpiries, withCommandSequence}
+use Rattle.dshot_bank_spec.specs.Order.{startOrders, refusedOrders}
+use Rattle.dshot_bank_spec.specs.Commands.{commandStop, clearRequestSent, nextCommandFrame}
+use Rattle.dshot_bank_spec.specs.FrameSet.{nextSet, packetsSent, firstDuties}
+use Rattle.dshot_bank_spec.specs.Replies.{wrappingAdd}
+use Rattle.dshot_bank_spec.specs.Send.{Sent, latchFault, exchangeRefused, frameStarted, exchangeBuffers, sendRequested}
+use Rattle.dshot_bank_spec.specs.Service.{frame-started, lease-expired, faulted, Served, sentEvent, demandExpired, serviceCore}
+use Rattle.dshot_bank_spec.specs.SentClaim.{sendingCore}
+use Rattle.dshot_bank_spec.proofs.LaneLaws.{on, off}
+use Rattle.dshot_bank_spec.proofs.FaultLaws.{Latched, latch-clears}
+use Rattle.dshot_bank_spec.proofs.LeaseEnds.{read-keeps}
+use Rattle.dshot_bank_spec.proofs.Service.{leasedCore, service-sends}
+use Rattle.dshot_bank_spec.proofs.ServiceLaws.{leased-counts}
+
+-- the counts with which a service comes to send, but for that of expiries
+sending-counts : (g : Stats → ℕ) (n now : ℕ) (c : Core) → ((k : ℕ) → g (withLeaseExpiries k (c .stats)) ≡ g (c .stats))
+    → g (sendingCore n now c .stats) ≡ g (c .stats)
+sending-counts g n now c h = read-keeps (λ (x : Core). g (x .stats)) (λ f x. refl) (leasedCore n now c) ∙ leased-counts g n now c h
+
+-- ---- a frame set that is sent
+
+module _ (n now : ℕ) (taken : List Bool) (c : Core) where
+  -- what it sends is settled before the first exchange, and so is what is left of a run
+  abbrev startedCore : Core
+  startedCore = frameStarted n now (nextSet n c .telemetryRequest) (withCommandSequence (nextCommandFrame c .left) c)
+
+  -- every lane takes its buffer
+  pub send-starts : n ≤ position not taken
+      → sendRequested n now taken c ≡ record { started = true; orders = startOrders n (firstDuties n (c .timing) (packetsSent n c)); core = startedCore }
+  unfolding sendRequested exchangeBuffers
+  send-starts h = sym (off _ _ (le-ltb (position not taken) n h) refl)
+
+  -- a lane refuses it
+  pub send-refused : position not taken < n
+      → sendRequested n now taken c ≡ exchangeRefused n (position not taken) (withCommandSequence (nextCommandFrame c .left) c)
+  unfolding sendRequested exchangeBuffers
+  send-refused h = sym (on _ _ (lt-ltb (position not taken) n h) refl)
+
+-- a refused exchange latches
+refused-latches : (n k : ℕ) (c : Core) → Latched (exchangeRefused n k c .core)
+unfolding exchangeRefused
+refused-latches n k c = latch-clears n false _
+
+-- ---- a service that comes to send: `service`
+
+pub record Starts (now : ℕ) (expired : Bool) (c : Core) (served : Served) : Type 0 where
+  pub event : served .event ≡ pick expired lease-expired frame-started
+  pub startedMs : served .bank .core .frame .startedMs ≡ now
+  pub busy : served .bank .core .frame .busy ≡ true
+  pub mask : served .bank .core .frame .completionMask ≡ 0
+  pub counted : served .bank .core .stats .framesStarted ≡ wrappingAdd (c .stats .framesStarted)
+
+-- document 01: "a refused exchange leaves new spares and a latched fault"
+pub record Refuses (n lane : ℕ) (c : Core) (served : Served) : Type 0 where
+  pub event : served .event ≡ faulted
+  pub orders : served .orders ≡ refusedOrders n lane
+  pub latched : Latched (served .bank .core)
+  pub uncounted : served .bank .core .stats .framesStarted ≡ c .stats .framesStarted
+
+module _ (n now : ℕ) (taken present : List Bool) (masks samples : List ℕ) (replies : List LaneReply) (buffers : Buffers) (c : Core) (f : c .frame .faulted ≡ false) (idle : c .frame .busy ≡ false) where
+  abbrev served : Served
+  served = serviceCore n now taken present masks samples replies buffers c
+
+  abbrev sent : Sent
+  sent = sendRequested n now taken (sendingCore n now c)
+
+  -- what it leaves is what is sent leaves
+  pub served-core : {A : Type 0} (g : Core → A) {x : Sent} → sent ≡ x → g (served .bank .core) ≡ g (x .core)
+  served-core g t =
+      sym (ap (λ (z : Served). g (z .bank .core)) (service-sends n now taken present masks samples replies buffers c f idle))
+      ∙ ap (λ (y : Sent). g (y .core)) t
+
+  served-event : {x : Sent} → sent ≡ x → served .event ≡ sentEvent (x .started) (demandExpired now (c .demand))
+  unfolding clearRequestSent
+  served-event t =
+      sym (ap (λ (z : Served). z .event) (service-sends n now taken present masks samples replies buffers c f idle))
+      ∙ ap (λ (y : Sent). sentEvent (y .started) (demandExpired now (c .demand))) t
+
+  -- where a frame starts it is counted, and in flight from this clock on
+  pub service-starts : n ≤ position not taken → Starts now (demandExpired now (c .demand)) c served
+  unfolding frameStarted
+  service-starts h =
+      let t = send-starts n now taken (sendingCore n now c) h in
+      record {
+        event = served-event t;
+        startedMs = served-core (λ (x : Core). x .frame .startedMs) t;
+        busy = served-core (λ (x : Core). x .frame .busy) t;
+        mask = served-core (λ (x : Core). x .frame .completionMask) t;
+        counted =
+            served-core (λ (x : Core). x .stats .framesStarted) t
+            ∙ ap wrappingAdd (sending-counts (λ (k : Stats). k .framesStarted) n now c (λ m. refl));
+      }
+
+  -- where a lane refuses its buffer the bank latches a fault, and no frame is counted
+  pub service-refuses : position not taken < n → Refuses n (position not taken) c served
+  unfolding exchangeRefused latchFault commandStop
+  service-refuses h =
+      let t = send-refused n now taken (sendingCore n now c) h in
+      record {
+        event = served-event t;
+        orders = sym (ap (λ (z : Served). z .orders) (service-sends n now taken present masks samples replies buffers c f idle)) ∙ ap (λ (x : Sent). x .orders) t;
+        latched = subst Latched (sym (served-core (λ (x : Core). x) t)) (refused-latches n (position not taken) (withCommandSequence (nextCommandFrame (sendingCore n now c) .left) (sendingCore n now c)));
+        uncounted =
+            served-core (λ (x : Core). x .stats .framesStarted) t ∙ sending-counts (λ (k : Stats). k .framesStarted) n now c (λ m. refl);
+      }
