@@ -18,5 +18,12 @@ pub mod ServiceLaws
 pub mod SendLaws
 pub mod CarriedLaws
 pub mod LeaseHolds
+pub mod CountLaws
+pub mod ReplyLaws
+pub mod InterruptLaws
+pub mod CompletionLaws
+pub mod LookLaws
+pub mod NewBank
+pub mod FallbackLaws
 pub mod RunKept
 pub mod RunLaws

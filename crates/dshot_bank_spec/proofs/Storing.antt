@@ -32,7 +32,7 @@ pub count-keeps : (r : Reply.Answer Reading) (l : LaneReply) → countReply r l 
 unfolding countReply
 count-keeps r l = either (λ (x : LaneReply). x .reply ≡ r) (isGiven r) refl refl
 
-lane-stored : (n lane : ℕ) → lane < n → (reading : Bool) (present : List Bool) (masks samples : List ℕ) (old : List LaneReply)
+pub lane-stored : (n lane : ℕ) → lane < n → (reading : Bool) (present : List Bool) (masks samples : List ℕ) (old : List LaneReply)
     → getD (readReplies n reading present masks samples old) lane noReplies
     ≡ pick reading (decodeLane present masks samples old lane) (getD old lane noReplies)
 unfolding readReplies decodeReplies
@@ -60,7 +60,7 @@ module _ (n now : ℕ) (taken present : List Bool) (masks samples : List ℕ) (r
   picked-replies false true w x y z p q r = q
   picked-replies false false w x y z p q r = r
 
-  service-reads : (c : Core) → serviceCore n now taken present masks samples replies buffers c .bank .replies
+  pub service-reads : (c : Core) → serviceCore n now taken present masks samples replies buffers c .bank .replies
       ≡ readReplies n (pick (c .frame .faulted) false (pick (c .frame .busy) false (c .frame .repliesWaiting))) present masks samples replies
   unfolding serviceCore clearRequestSent
   service-reads c =
