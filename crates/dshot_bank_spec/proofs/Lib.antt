@@ -25,5 +25,6 @@ pub mod CompletionLaws
 pub mod LookLaws
 pub mod NewBank
 pub mod FallbackLaws
+pub mod ModeKept
 pub mod RunKept
 pub mod RunLaws
