@@ -16,7 +16,7 @@ use Rattle.dshot_bank_spec.specs.State.{Telemetry, Core, LaneReply, Buff
 use Rattle.dshot_bank_spec.specs.Commands.{MotorCommand, nextCommandFrame}
 use Rattle.dshot_bank_spec.specs.FrameSet.{asLane, frameSet, nextSet}
 use Rattle.dshot_bank_spec.specs.Send.{carry, frameStarted}
-use Rattle.dshot_bank_spec.specs.Service.{Served, serviceCore}
+use Rattle.dshot_bank_spec.specs.Service.{serviceCore}
 use Rattle.dshot_bank_spec.specs.SentClaim.{sendingCore}
 use Rattle.dshot_bank_spec.proofs.LeaseEnds.{read-keeps}
 use Rattle.dshot_bank_spec.proofs.Service.{leasedCore}

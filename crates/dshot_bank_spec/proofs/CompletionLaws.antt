@@ -3,17 +3,16 @@
 use mathlib.Core.Path.{_≡_, _∙_, refl, sym, ap}
 use Prim.Native.Nat.{ℕ, _^_, _-_, _<_}
 use mathlib.Core.Bool.{Bool, true, false, not}
-use mathlib.Core.List.{List, [], _∷_, _++_}
+use mathlib.Core.List.{List, [], _∷_}
 use borrow.Author.Tests.{eq-eqb, ne-eqb}
 use lib.Dec.{eqb}
-use lib.ListN.{length, getD, set}
+use lib.ListN.{length, getD}
 use lib.Seq.{getD-set-same, getD-set-other}
-use Rattle.dshot_reply_spec.specs.Answer.{pick}
 use Rattle.dshot_bank_spec.specs.State.{Stats, Core}
 use Rattle.dshot_bank_spec.specs.Order.{Order, stop-frame, pause-and-clear, begin-receive, end-receive, latchOrders}
 use Rattle.dshot_bank_spec.specs.Replies.{wrappingAdd}
 use Rattle.dshot_bank_spec.specs.Send.{latchFault}
-use Rattle.dshot_bank_spec.specs.Interrupt.{InterruptEvent, completed, faulted, Interrupted, allComplete, laneDone, frameDone, windowOpened, windowClosed, opensWindow, afterLane}
+use Rattle.dshot_bank_spec.specs.Interrupt.{InterruptEvent, completed, faulted, Interrupted, laneDone, frameDone, windowOpened, windowClosed, opensWindow, afterLane}
 use Rattle.dshot_bank_spec.proofs.LaneLaws.{on, off, either}
 
 -- ---- one lane: a frame is counted, and its window of samples is not

@@ -25,6 +25,7 @@ pub mod CompletionLaws
 pub mod LookLaws
 pub mod NewBank
 pub mod FallbackLaws
-pub mod ModeKept
-pub mod RunKept
+pub mod UnchangedFault
+pub mod UnchangedMode
+pub mod UnchangedRun
 pub mod RunLaws

@@ -10,7 +10,6 @@ use lib.ListN.{length}
 use Rattle.dshot_reply_spec.proofs.Choice.{not-second}
 use Rattle.dshot_reply_spec.specs.Answer.{pick}
 use Rattle.dshot_spec.specs.Command.{CommandRun}
-use Rattle.dshot_bank_spec.specs.State.{Buffers}
 use Rattle.dshot_bank_spec.specs.Calls.{command-special, request-telemetry, on-dma-interrupt, service-call, sending, refused, State, Stepped, told, act}
 use Rattle.dshot_bank_spec.specs.Steps.{slotsFit, serviceFits, lengthRefusal, laneRefusal, portRefusal, refuseOr, step}
 use Rattle.dshot_bank_spec.proofs.LaneLaws.{on}
@@ -50,15 +49,15 @@ module _ (n first second : ℕ) where
 -- ---- a lane
 
 module _ (n : ℕ) (s : State) where
-  -- one that there is is not refused
-  pub lane-there : (motor : ℕ) → motor < n → (r : Stepped) → refuseOr s (laneRefusal n motor) r ≡ r
-  lane-there motor l r = ap (λ (t : Bool). refuseOr s (pick t 0 12) r) (lt-ltb motor n l)
-
   -- one that there is not is refused with 12
   lane-missing : (motor : ℕ) → n ≤ motor → (r : Stepped) → refuseOr s (laneRefusal n motor) r ≡ told s (refused 12)
   lane-missing motor h r = ap (λ (t : Bool). refuseOr s (pick t 0 12) r) (le-ltb motor n h)
 
-  -- whatever the state, by every call that takes a lane: document 01, "13, 12, then state"
+  -- one that there is is not refused
+  pub lane-there : (motor : ℕ) → motor < n → (r : Stepped) → refuseOr s (laneRefusal n motor) r ≡ r
+  lane-there motor l r = ap (λ (t : Bool). refuseOr s (pick t 0 12) r) (lt-ltb motor n l)
+
+  -- one that there is not is refused whatever the state, by every call that takes a lane: document 01, "13, 12, then state"
   pub special-no-lane : (motor : ℕ) (sequence : CommandRun) → n ≤ motor → step n s (command-special motor sequence) ≡ told s (refused 12)
   unfolding step portRefusal
   special-no-lane motor sequence h = lane-missing motor h (act n s (command-special motor sequence))

@@ -1,7 +1,7 @@
 -- What `command_special` refuses and queues, and where `command_pending` tells of a run: for every state, lane and run.
 -- Assumes nothing.
 use mathlib.Core.Path.{_≡_, _∙_, refl, sym, ap}
-use Prim.Native.Nat.{ℕ, _<_, _≤_}
+use Prim.Native.Nat.{ℕ, _<_}
 use mathlib.Core.Bool.{Bool, true, false}
 use mathlib.Core.Option.{Option, none, some}
 use native.Mathlib.Omega.{arith}
@@ -9,23 +9,14 @@ use lib.ListN.{length, getD}
 use Rattle.dshot_reply_spec.specs.Answer as Reply
 use Rattle.dshot_spec.specs.Command.{CommandRun}
 use Rattle.dshot_bank_spec.specs.Lanes.{isSome}
-use Rattle.dshot_bank_spec.specs.State.{Demand, MotorRun, Core}
+use Rattle.dshot_bank_spec.specs.State.{MotorRun, Core}
 use Rattle.dshot_bank_spec.specs.With.{withCommandSequence}
-use Rattle.dshot_bank_spec.specs.Commands.{isRunning, anyRequested, commandSpecial}
+use Rattle.dshot_bank_spec.specs.Commands.{isRunning, commandSpecial}
 use Rattle.dshot_bank_spec.specs.Calls.{command-special, command-pending, done, refused, flag, State, Stepped, told, changed, commanded}
 use Rattle.dshot_bank_spec.specs.Steps.{portRefusal, step}
 use Rattle.dshot_bank_spec.proofs.LaneLaws.{on, off, either}
 use Rattle.dshot_bank_spec.proofs.PortLaws.{lane-there}
-use Rattle.dshot_bank_spec.proofs.ThrottleLaws.{one-above, none-above}
-
--- no lease, and every value 0
-pub record Stopped (d : Demand) : Type 0 where
-  pub lease : d .leaseDurationMs ≡ none
-  pub values : (i : ℕ) → i < length (d .requestedValues) → getD (d .requestedValues) i 0 ≡ 0
-
--- the motors then do not count as running
-not-running : (d : Demand) → Stopped d → isRunning d ≡ false
-not-running d h = sym (off _ _ (ap isSome (h .lease)) (sym (none-above 0 (d .requestedValues) (λ i l. omega (arith, h .values i l)))))
+use Rattle.dshot_bank_spec.proofs.ThrottleLaws.{one-above, none-above, Stopped}
 
 module _ (n : ℕ) (s : State) (motor : ℕ) (sequence : CommandRun) (there : motor < n) where
   abbrev queued : Stepped
@@ -56,11 +47,17 @@ module _ (n : ℕ) (s : State) (motor : ℕ) (sequence : CommandRun) (there : mo
         special-acts (Reply.refused 19) (off _ _ f (on _ _
         (either (λ (b : Bool). b ≡ true) (isSome (d .leaseDurationMs)) refl (one-above 0 (d .requestedValues) i l h)) refl))
 
+    -- motors that are stopped do not count as running
+    not-running : Stopped (s .bank .core .demand) → isRunning (s .bank .core .demand) ≡ false
+    not-running h =
+        let values = s .bank .core .demand .requestedValues in
+        sym (off _ _ (ap isSome (h .lease)) (sym (none-above 0 values (λ i l. omega (arith, h .values i l)))))
+
     -- where all are stopped, a run that is pending refuses it with 20
     pub special-pending : Stopped (s .bank .core .demand) → (r : MotorRun) → s .bank .core .commandSequence ≡ some r → queued ≡ told s (refused 20)
     unfolding commandSpecial
     special-pending h r e =
-        special-acts (Reply.refused 20) (off _ _ f (off _ _ (not-running (s .bank .core .demand) h) (on _ _ (ap isSome e) refl)))
+        special-acts (Reply.refused 20) (off _ _ f (off _ _ (not-running h) (on _ _ (ap isSome e) refl)))
 
     -- and else it is queued for its lane, and nothing else changes
     pub special-queued : Stopped (s .bank .core .demand) → s .bank .core .commandSequence ≡ none
@@ -68,7 +65,7 @@ module _ (n : ℕ) (s : State) (motor : ℕ) (sequence : CommandRun) (there : mo
     unfolding commandSpecial
     special-queued h e =
         special-acts (Reply.given (withCommandSequence (some (record { motor = motor; sequence = sequence })) (s .bank .core)))
-        (off _ _ f (off _ _ (not-running (s .bank .core .demand) h) (off _ _ (ap isSome e) refl)))
+        (off _ _ f (off _ _ (not-running h) (off _ _ (ap isSome e) refl)))
 
     -- a run that was queued is told as pending, and one that was not is not: `command_pending`
     pub queued-pending : Stopped (s .bank .core .demand) → s .bank .core .commandSequence ≡ none

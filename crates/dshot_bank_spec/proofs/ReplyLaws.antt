@@ -13,7 +13,7 @@ use Rattle.dshot_reply_spec.specs.Answer as Reply
 use Rattle.dshot_reply_spec.specs.Value.{Reading}
 use Rattle.dshot_bank_spec.specs.State.{Core, LaneReply, Buffers}
 use Rattle.dshot_bank_spec.specs.Commands.{noReplies}
-use Rattle.dshot_bank_spec.specs.Replies.{wrappingAdd, saturatingAdd, countReply, decodeLane}
+use Rattle.dshot_bank_spec.specs.Replies.{wrappingAdd, saturatingAdd, countReply}
 use Rattle.dshot_bank_spec.specs.Service.{readReplies, serviceCore}
 use Rattle.dshot_bank_spec.specs.Calls.{take-replies, replied, State, repliesOf}
 use Rattle.dshot_bank_spec.specs.Steps.{portRefusal, step}

@@ -19,7 +19,7 @@ leasedCore n now c = expireLease n (demandExpired now (clearRequestSent c .deman
 pub leased-keeps : {A : Type 0} (g : Core → A) (n now : ℕ) (c : Core)
     → ((d : Demand) (t : Telemetry) (k : Stats) → g (withStats k (withTelemetry t (withDemand d c))) ≡ g c) → g (leasedCore n now c) ≡ g c
 unfolding expireLease commandStop clearRequestSent
-leased-keeps g n now c h = either (λ (x : Core). g x ≡ g c) (demandExpired now (clearRequestSent c .demand)) (h _ _ _) (h (c .demand) _ (c .stats))
+leased-keeps g n now c h = either (λ (x : Core). g x ≡ g c) (demandExpired now (clearRequestSent c .demand)) (h _ _ _) (h _ _ _)
 
 pub leased-frame : (n now : ℕ) (c : Core) → leasedCore n now c .frame ≡ c .frame
 leased-frame n now c = leased-keeps (λ (x : Core). x .frame) n now c (λ d t k. refl)

@@ -2,27 +2,22 @@
 -- Assumes nothing.
 use mathlib.Core.Path.{_≡_, _∙_, refl, sym, ap, subst}
 use Prim.Native.Nat.{ℕ, _<_, _≤_}
-use mathlib.Core.Bool.{Bool, true, false, not}
+use mathlib.Core.Bool.{Bool, true, false}
 use mathlib.Core.List.{List, []}
-use mathlib.Core.Option.{Option, none, some}
-use borrow.Author.Tests.{lt-ltb, le-ltb}
-use lib.Dec.{ltb}
+use mathlib.Core.Option.{none}
 use Rattle.dshot_reply_spec.specs.Answer.{pick}
 use Rattle.dshot_spec.specs.Lease.{elapsed, leaseExpired}
 use Rattle.dshot_spec.proofs.LeaseLaws.{lease-within, lease-above}
-use Rattle.dshot_bank_spec.specs.Lanes.{position}
 use Rattle.dshot_bank_spec.specs.State.{Telemetry, Frame, Stats, Core, LaneReply, Buffers}
-use Rattle.dshot_bank_spec.specs.With.{withLeaseExpiries, withCommandSequence}
-use Rattle.dshot_bank_spec.specs.Order.{Order, latchOrders, startOrders}
-use Rattle.dshot_bank_spec.specs.Commands.{commandStop, clearRequestSent, nextCommandFrame}
-use Rattle.dshot_bank_spec.specs.FrameSet.{nextSet, packetsSent, firstDuties}
+use Rattle.dshot_bank_spec.specs.With.{withLeaseExpiries}
+use Rattle.dshot_bank_spec.specs.Order.{latchOrders}
+use Rattle.dshot_bank_spec.specs.Commands.{commandStop, clearRequestSent}
 use Rattle.dshot_bank_spec.specs.Replies.{wrappingAdd}
-use Rattle.dshot_bank_spec.specs.Send.{Sent, latchFault, exchangeRefused, frameStarted, exchangeBuffers, sendRequested, sentBuffers}
-use Rattle.dshot_bank_spec.specs.Service.{ServiceEvent, frame-started, busy, lease-expired, faulted, Served, Skipped, unsent, skipped, demandExpired, expireLease, countBusySkip, countTimeout, serviceBusy, serviceCore}
-use Rattle.dshot_bank_spec.specs.SentClaim.{sendingCore}
+use Rattle.dshot_bank_spec.specs.Send.{latchFault}
+use Rattle.dshot_bank_spec.specs.Service.{ServiceEvent, busy, lease-expired, faulted, Served, Skipped, unsent, skipped, demandExpired, expireLease, countBusySkip, countTimeout, serviceBusy, serviceCore}
 use Rattle.dshot_bank_spec.proofs.LaneLaws.{on, off, either, under}
 use Rattle.dshot_bank_spec.proofs.FaultLaws.{Latched, latch-clears, fault-counted}
-use Rattle.dshot_bank_spec.proofs.Service.{leasedCore, leased-keeps, leased-frame, service-sends}
+use Rattle.dshot_bank_spec.proofs.Service.{leasedCore, leased-keeps, leased-frame}
 
 -- the lease changes none of the counts but that of expiries
 pub leased-counts : (g : Stats → ℕ) (n now : ℕ) (c : Core) → ((k : ℕ) → g (withLeaseExpiries k (c .stats)) ≡ g (c .stats))

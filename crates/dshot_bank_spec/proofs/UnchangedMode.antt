@@ -1,9 +1,9 @@
 -- No call takes a bank out of bidirectional mode, nor into it but `enable_bidirectional`: for every count of lanes and every state.
 -- Assumes nothing.
-use mathlib.Core.Path.{_≡_, _∙_, refl, sym, ap, subst}
+use mathlib.Core.Path.{_≡_, _∙_, refl, ap}
 use Prim.Native.Nat.{ℕ}
 use mathlib.Core.Bool.{Bool, true, false, not}
-use mathlib.Core.List.{List, [], _∷_}
+use mathlib.Core.List.{List}
 use lib.Dec.{eqb, ltb}
 use Rattle.dshot_reply_spec.specs.Answer as Reply
 use Rattle.dshot_spec.specs.Command.{CommandRun}
@@ -13,12 +13,12 @@ use Rattle.dshot_bank_spec.specs.State.{Frame, Core, LaneReply, Buffers}
 use Rattle.dshot_bank_spec.specs.Commands.{anyRequested, isRunning, commandStop, commandThrottles, commandSpecial, requestTelemetry, cancelTelemetryRequest, clearRequestSent}
 use Rattle.dshot_bank_spec.specs.Send.{Sent, latchFault, exchangeRefused, frameStarted, exchangeBuffers, sendRequested}
 use Rattle.dshot_bank_spec.specs.Interrupt.{Interrupted, allComplete, isComplete, laneDone, frameDone, windowOpened, windowClosed, opensWindow, afterLane, onDmaInterrupt}
-use Rattle.dshot_bank_spec.specs.Service.{Served, Skipped, unsent, demandExpired, expireLease, serviceBusy, repliesRead, serviceCore}
+use Rattle.dshot_bank_spec.specs.Service.{Served, Skipped, demandExpired, serviceBusy, repliesRead, serviceCore}
 use Rattle.dshot_bank_spec.specs.Calls.{Call, enable-bidirectional, command-stop, command-throttles, command-special, request-telemetry, cancel-telemetry-request, take-telemetry-request-sent, service-call, on-dma-interrupt, take-replies, is-bidirectional, is-faulted, stats, requested-values, command-pending, reply-stats, sending, lend, State, Stepped, commanded, act}
 use Rattle.dshot_bank_spec.specs.Steps.{step}
 use Rattle.dshot_bank_spec.proofs.LaneLaws.{either}
 use Rattle.dshot_bank_spec.proofs.Refusals.{either-step}
-use Rattle.dshot_bank_spec.proofs.Service.{leasedCore, leased-frame, serviceSend, serviceOpen}
+use Rattle.dshot_bank_spec.proofs.Service.{leasedCore, leased-frame}
 
 -- a core has the mode m
 abbrev In : Bool → Core → Type 0
