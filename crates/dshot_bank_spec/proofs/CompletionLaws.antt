@@ -15,7 +15,7 @@ use Rattle.dshot_bank_spec.specs.Send.{latchFault}
 use Rattle.dshot_bank_spec.specs.Interrupt.{InterruptEvent, completed, faulted, Interrupted, laneDone, frameDone, windowOpened, windowClosed, opensWindow, afterLane}
 use Rattle.dshot_bank_spec.proofs.LaneLaws.{on, off, either}
 
--- ---- one lane: a frame is counted, and its window of samples is not
+-- ---- one lane: a frame is counted, and its window of samples is not. `on_dma_interrupt`, `if !self.receiving { .. }`
 
 module _ (motor : ℕ) (c : Core) where
   abbrev before : List ℕ
@@ -60,7 +60,8 @@ module _ (n motor : ℕ) (complete error turned back : Bool) (c : Core) where
     is-last = ap not (eq-eqb (c .frame .completionMask) (2 ^ n - 1) last)
 
     -- in a bidirectional bank the last frame opens the receive window: document 01, "four completions open the receive window"
-    pub opens : c .frame .bidirectional ≡ true → c .frame .receiving ≡ false → turned ≡ true → answered ≡ answers completed (begin-receive ∷ []) (windowOpened c)
+    pub opens : c .frame .bidirectional ≡ true → c .frame .receiving ≡ false → turned ≡ true
+        → answered ≡ answers completed (begin-receive ∷ []) (windowOpened c)
     unfolding afterLane
     opens b r t = sym (off _ _ is-last (on _ _ (sym (on _ _ b (sym (ap not r)))) (on _ _ t refl)))
 
@@ -120,7 +121,7 @@ pub window-closes : (c : Core) → Closed c (windowClosed c)
 unfolding windowClosed frameDone
 window-closes c = record { ended = record { busy = refl; counted = refl }; receiving = refl; waiting = refl }
 
--- a set that ends without one leaves none waiting that did not
+-- a set that ends without a window leaves what waits as it was
 pub ends-unread : (c : Core) → frameDone c .frame .repliesWaiting ≡ c .frame .repliesWaiting
 unfolding frameDone
 ends-unread c = refl

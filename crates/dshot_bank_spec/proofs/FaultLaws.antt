@@ -42,14 +42,15 @@ latch-clears n spurious c = record {
   stopped = record { lease = refl; values = zeros n };
 }
 
--- a fault is counted when it is new
-pub fault-counted : (n : ℕ) (spurious : Bool) (c : Core) → c .frame .faulted ≡ false → latchFault n spurious c .stats .dmaFaults ≡ wrappingAdd (c .stats .dmaFaults)
-unfolding latchFault commandStop
-fault-counted n spurious c f = sym (off _ _ f refl)
+module _ (n : ℕ) (spurious : Bool) (c : Core) where
+  -- a fault is counted when it is new
+  pub fault-counted : c .frame .faulted ≡ false → latchFault n spurious c .stats .dmaFaults ≡ wrappingAdd (c .stats .dmaFaults)
+  unfolding latchFault commandStop
+  fault-counted f = sym (off _ _ f refl)
 
-pub fault-counted-once : (n : ℕ) (spurious : Bool) (c : Core) → c .frame .faulted ≡ true → latchFault n spurious c .stats .dmaFaults ≡ c .stats .dmaFaults
-unfolding latchFault commandStop
-fault-counted-once n spurious c f = sym (on _ _ f refl)
+  pub fault-counted-once : c .frame .faulted ≡ true → latchFault n spurious c .stats .dmaFaults ≡ c .stats .dmaFaults
+  unfolding latchFault commandStop
+  fault-counted-once f = sym (on _ _ f refl)
 
 -- a spurious interrupt is counted as one, and any other fault is not
 pub spurious-counted : (n : ℕ) (c : Core) → latchFault n true c .stats .spuriousInterrupts ≡ wrappingAdd (c .stats .spuriousInterrupts)
@@ -60,7 +61,7 @@ pub spurious-uncounted : (n : ℕ) (c : Core) → latchFault n false c .stats .s
 unfolding latchFault commandStop
 spurious-uncounted n c = refl
 
--- ---- a faulted bank
+-- ---- a faulted bank: document 01, both calls look for a fault first
 
 module _ (c : Core) (f : c .frame .faulted ≡ true) where
   -- a service orders nothing and leaves replies and buffers; only the request that was sent is cleared

@@ -21,7 +21,7 @@ use Rattle.dshot_bank_spec.proofs.LaneLaws.{off, either, under}
 use Rattle.dshot_bank_spec.proofs.LeaseEnds.{read-keeps}
 use Rattle.dshot_bank_spec.proofs.Service.{leasedCore, serviceSend}
 
--- ---- when a demand has expired
+-- ---- when a demand has expired: `lease_expired` in `service`
 
 module _ (now : ℕ) (d : Demand) where
   -- without a lease it never does

@@ -22,6 +22,7 @@ pub mod CountLaws
 pub mod ReplyLaws
 pub mod InterruptLaws
 pub mod CompletionLaws
+pub mod EnableLaws
 pub mod LookLaws
 pub mod NewBank
 pub mod FallbackLaws

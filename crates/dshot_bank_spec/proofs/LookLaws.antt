@@ -8,30 +8,14 @@ use lib.ListN.{length, getD, replicate, List·getD-map}
 use Rattle.dshot_spec.specs.Tabulate.{part}
 use Rattle.dshot_spec.specs.Throttle.{throttleValues}
 use Rattle.dshot_bank_spec.specs.State.{LaneReply}
-use Rattle.dshot_bank_spec.specs.Commands.{noReplies, commandStop, enableBidirectional}
-use Rattle.dshot_bank_spec.specs.Calls.{enable-bidirectional, command-stop, command-throttles, is-bidirectional, is-faulted, stats, requested-values, reply-stats, sending, ReplyStats, done, refused, flag, counts, values, reply-counts, slots, State, Stepped, replyStatsOf, told}
+use Rattle.dshot_bank_spec.specs.Commands.{noReplies, commandStop}
+use Rattle.dshot_bank_spec.specs.Calls.{command-stop, command-throttles, is-faulted, stats, requested-values, reply-stats, sending, ReplyStats, done, refused, flag, counts, values, reply-counts, slots, State, Stepped, replyStatsOf, told}
 use Rattle.dshot_bank_spec.specs.Steps.{portRefusal, step}
 use Rattle.dshot_bank_spec.proofs.LaneLaws.{on, off}
 use Rattle.dshot_bank_spec.proofs.PortLaws.{SlotsFit, view-acts}
 use Rattle.dshot_bank_spec.proofs.ThrottleLaws.{throttles-faulted, throttles-taken, throttles-set}
 
 module _ (n : ℕ) (s : State) where
-  -- ---- is_bidirectional, with enable_bidirectional
-
-  -- lanes that cannot receive refuse it with 22, and nothing else does
-  pub enable-refused : step n s (enable-bidirectional false) ≡ told s (refused 22)
-  unfolding step portRefusal enableBidirectional
-  enable-refused = refl
-
-  pub enable-done : step n s (enable-bidirectional true) .answer ≡ done
-  unfolding step portRefusal enableBidirectional
-  enable-done = refl
-
-  -- a bank that was enabled is told as bidirectional
-  pub enabled-told : step n (step n s (enable-bidirectional true) .state) is-bidirectional .answer ≡ flag true
-  unfolding step portRefusal enableBidirectional
-  enabled-told = refl
-
   -- ---- is_faulted
 
   -- a bank told as faulted refuses all throttles with 18

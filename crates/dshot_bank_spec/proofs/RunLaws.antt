@@ -79,4 +79,5 @@ module _ (n now : ℕ) (taken present : List Bool) (masks samples : List ℕ) (r
   pub run-goes-on : n ≤ position not taken → after ≡ nextCommandFrame (sendingCore n now c) .left
   unfolding frameStarted
   run-goes-on h =
-      served-core n now taken present masks samples replies buffers c f idle (λ (x : Core). x .commandSequence) (send-starts n now taken (sendingCore n now c) h)
+      let starts = send-starts n now taken (sendingCore n now c) h in
+      served-core n now taken present masks samples replies buffers c f idle (λ (x : Core). x .commandSequence) starts

@@ -5,21 +5,23 @@ use Prim.Native.Nat.{ℕ, _<_, _≤_}
 use mathlib.Core.Bool.{Bool, true, false, not}
 use mathlib.Core.List.{List}
 use borrow.Author.Tests.{lt-ltb, le-ltb}
+use lib.ListN.{getD}
 use Rattle.dshot_reply_spec.specs.Answer.{pick}
+use Rattle.dshot_spec.proofs.Tabulated.{getD-tabulate}
 use Rattle.dshot_bank_spec.specs.Lanes.{position}
-use Rattle.dshot_bank_spec.specs.State.{Stats, Core, LaneReply, Buffers}
+use Rattle.dshot_bank_spec.specs.State.{Frame, Stats, Core, LaneReply, Buffers}
 use Rattle.dshot_bank_spec.specs.With.{withLeaseExpiries, withCommandSequence}
 use Rattle.dshot_bank_spec.specs.Order.{startOrders, refusedOrders}
 use Rattle.dshot_bank_spec.specs.Commands.{commandStop, clearRequestSent, nextCommandFrame}
 use Rattle.dshot_bank_spec.specs.FrameSet.{nextSet, packetsSent, firstDuties}
 use Rattle.dshot_bank_spec.specs.Replies.{wrappingAdd}
-use Rattle.dshot_bank_spec.specs.Send.{Sent, latchFault, exchangeRefused, frameStarted, exchangeBuffers, sendRequested}
-use Rattle.dshot_bank_spec.specs.Service.{frame-started, lease-expired, faulted, Served, sentEvent, demandExpired, serviceCore}
+use Rattle.dshot_bank_spec.specs.Send.{turnMarks, Sent, latchFault, exchangeRefused, frameStarted, exchangeBuffers, sendRequested, sentBuffers}
+use Rattle.dshot_bank_spec.specs.Service.{frame-started, lease-expired, faulted, Served, sentEvent, demandExpired, repliesRead, serviceCore}
 use Rattle.dshot_bank_spec.specs.SentClaim.{sendingCore}
-use Rattle.dshot_bank_spec.proofs.LaneLaws.{on, off}
+use Rattle.dshot_bank_spec.proofs.LaneLaws.{on, off, either}
 use Rattle.dshot_bank_spec.proofs.FaultLaws.{Latched, latch-clears}
 use Rattle.dshot_bank_spec.proofs.LeaseEnds.{read-keeps}
-use Rattle.dshot_bank_spec.proofs.Service.{leasedCore, service-sends}
+use Rattle.dshot_bank_spec.proofs.Service.{leasedCore, leased-frame, serviceSend, service-sends}
 use Rattle.dshot_bank_spec.proofs.ServiceLaws.{leased-counts}
 
 -- the counts with which a service comes to send, but for that of expiries
@@ -27,7 +29,7 @@ sending-counts : (g : Stats → ℕ) (n now : ℕ) (c : Core) → ((k : ℕ) →
     → g (sendingCore n now c .stats) ≡ g (c .stats)
 sending-counts g n now c h = read-keeps (λ (x : Core). g (x .stats)) (λ f x. refl) (leasedCore n now c) ∙ leased-counts g n now c h
 
--- ---- a frame set that is sent
+-- ---- a frame set that is sent: `send_requested`
 
 module _ (n now : ℕ) (taken : List Bool) (c : Core) where
   -- what it sends is settled before the first exchange, and so is what is left of a run
@@ -60,31 +62,49 @@ pub record Starts (now : ℕ) (expired : Bool) (c : Core) (served : Served) : Ty
   pub mask : served .bank .core .frame .completionMask ≡ 0
   pub counted : served .bank .core .stats .framesStarted ≡ wrappingAdd (c .stats .framesStarted)
 
--- document 01: "a refused exchange leaves new spares and a latched fault"
-pub record Refuses (n lane : ℕ) (c : Core) (served : Served) : Type 0 where
+-- document 01: "a refused exchange leaves new spares and a latched fault"; the lanes before the one that refuses have turned
+pub record Refuses (n now lane : ℕ) (c : Core) (buffers : Buffers) (served : Served) : Type 0 where
   pub event : served .event ≡ faulted
   pub orders : served .orders ≡ refusedOrders n lane
   pub latched : Latched (served .bank .core)
   pub uncounted : served .bank .core .stats .framesStarted ≡ c .stats .framesStarted
+  pub spares : served .buffers ≡ sentBuffers n (sendingCore n now c) buffers
+  pub turned : (i : ℕ) → i < n → i < lane → getD (served .bank .core .frame .inSecond) i false ≡ not (getD (c .frame .inSecond) i false)
+  pub unturned : (i : ℕ) → i < n → lane ≤ i → getD (served .bank .core .frame .inSecond) i false ≡ getD (c .frame .inSecond) i false
 
-module _ (n now : ℕ) (taken present : List Bool) (masks samples : List ℕ) (replies : List LaneReply) (buffers : Buffers) (c : Core) (f : c .frame .faulted ≡ false) (idle : c .frame .busy ≡ false) where
+-- the marks with which a service comes to send are the bank's
+sending-marks : (n now : ℕ) (c : Core) → sendingCore n now c .frame .inSecond ≡ c .frame .inSecond
+unfolding repliesRead
+sending-marks n now c =
+    let c₁ = leasedCore n now c in
+    either (λ (x : Core). x .frame .inSecond ≡ c₁ .frame .inSecond) (c₁ .frame .repliesWaiting) refl refl
+    ∙ ap (λ (q : Frame). q .inSecond) (leased-frame n now c)
+
+-- a mark after the first lanes have turned
+mark-turned : (n k i : ℕ) (marks : List Bool) → i < n → i < k → getD (turnMarks n k marks) i false ≡ not (getD marks i false)
+mark-turned n k i marks l h = getD-tabulate _ n i false l ∙ sym (on _ _ (lt-ltb i k h) refl)
+
+mark-unturned : (n k i : ℕ) (marks : List Bool) → i < n → k ≤ i → getD (turnMarks n k marks) i false ≡ getD marks i false
+mark-unturned n k i marks l h = getD-tabulate _ n i false l ∙ sym (off _ _ (le-ltb i k h) refl)
+
+module _ (n now : ℕ) (taken present : List Bool) (masks samples : List ℕ) (replies : List LaneReply) (buffers : Buffers) (c : Core)
+    (f : c .frame .faulted ≡ false) (idle : c .frame .busy ≡ false) where
   abbrev served : Served
   served = serviceCore n now taken present masks samples replies buffers c
 
   abbrev sent : Sent
   sent = sendRequested n now taken (sendingCore n now c)
 
-  -- what it leaves is what is sent leaves
+  sends : serviceSend n now taken present masks samples replies buffers (demandExpired now (clearRequestSent c .demand)) (leasedCore n now c) ≡ served
+  sends = service-sends n now taken present masks samples replies buffers c f idle
+
+  -- its core is the one that sending leaves
   pub served-core : {A : Type 0} (g : Core → A) {x : Sent} → sent ≡ x → g (served .bank .core) ≡ g (x .core)
-  served-core g t =
-      sym (ap (λ (z : Served). g (z .bank .core)) (service-sends n now taken present masks samples replies buffers c f idle))
-      ∙ ap (λ (y : Sent). g (y .core)) t
+  served-core g t = sym (ap (λ (z : Served). g (z .bank .core)) sends) ∙ ap (λ (y : Sent). g (y .core)) t
 
   served-event : {x : Sent} → sent ≡ x → served .event ≡ sentEvent (x .started) (demandExpired now (c .demand))
   unfolding clearRequestSent
-  served-event t =
-      sym (ap (λ (z : Served). z .event) (service-sends n now taken present masks samples replies buffers c f idle))
-      ∙ ap (λ (y : Sent). sentEvent (y .started) (demandExpired now (c .demand))) t
+  served-event t = sym (ap (λ (z : Served). z .event) sends) ∙ ap (λ (y : Sent). sentEvent (y .started) (demandExpired now (c .demand))) t
 
   -- where a frame starts it is counted, and in flight from this clock on
   pub service-starts : n ≤ position not taken → Starts now (demandExpired now (c .demand)) c served
@@ -102,14 +122,20 @@ module _ (n now : ℕ) (taken present : List Bool) (masks samples : List ℕ) (r
       }
 
   -- where a lane refuses its buffer the bank latches a fault, and no frame is counted
-  pub service-refuses : position not taken < n → Refuses n (position not taken) c served
+  pub service-refuses : position not taken < n → Refuses n now (position not taken) c buffers served
   unfolding exchangeRefused latchFault commandStop
   service-refuses h =
-      let t = send-refused n now taken (sendingCore n now c) h in
+      let k = position not taken in
+      let c₂ = sendingCore n now c in
+      let t = send-refused n now taken c₂ h in
+      let marks = served-core (λ (x : Core). x .frame .inSecond) t ∙ ap (turnMarks n k) (sending-marks n now c) in
       record {
         event = served-event t;
-        orders = sym (ap (λ (z : Served). z .orders) (service-sends n now taken present masks samples replies buffers c f idle)) ∙ ap (λ (x : Sent). x .orders) t;
-        latched = subst Latched (sym (served-core (λ (x : Core). x) t)) (refused-latches n (position not taken) (withCommandSequence (nextCommandFrame (sendingCore n now c) .left) (sendingCore n now c)));
+        orders = sym (ap (λ (z : Served). z .orders) sends) ∙ ap (λ (x : Sent). x .orders) t;
+        latched = subst Latched (sym (served-core (λ (x : Core). x) t)) (refused-latches n k (withCommandSequence (nextCommandFrame c₂ .left) c₂));
         uncounted =
-            served-core (λ (x : Core). x .stats .framesStarted) t ∙ sending-counts (λ (k : Stats). k .framesStarted) n now c (λ m. refl);
+            served-core (λ (x : Core). x .stats .framesStarted) t ∙ sending-counts (λ (q : Stats). q .framesStarted) n now c (λ m. refl);
+        spares = sym (ap (λ (z : Served). z .buffers) sends);
+        turned = λ i l b. ap (λ (m : List Bool). getD m i false) marks ∙ mark-turned n k i (c .frame .inSecond) l b;
+        unturned = λ i l b. ap (λ (m : List Bool). getD m i false) marks ∙ mark-unturned n k i (c .frame .inSecond) l b;
       }

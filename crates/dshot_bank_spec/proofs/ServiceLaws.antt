@@ -1,4 +1,4 @@
--- What a service does with a frame in flight, and with none: its event, its counts and what it leaves, for every count of lanes and every state.
+-- What a service does with a frame in flight: its event, its counts and what it leaves, for every count of lanes and every state.
 -- Assumes nothing.
 use mathlib.Core.Path.{_≡_, _∙_, refl, sym, ap, subst}
 use Prim.Native.Nat.{ℕ, _<_, _≤_}
@@ -29,14 +29,16 @@ leased-counts g n now c h = either (λ (x : Core). g (x .stats) ≡ g (c .stats)
 pub leased-telemetry : (n now : ℕ) (c : Core) → leasedCore n now c .telemetry ≡ record { request = c .telemetry .request; requestSent = none }
 unfolding expireLease commandStop clearRequestSent
 leased-telemetry n now c =
-    either (λ (x : Core). x .telemetry ≡ record { request = c .telemetry .request; requestSent = none }) (demandExpired now (clearRequestSent c .demand)) refl refl
+    let left : Core → Type 0 = λ x. x .telemetry ≡ record { request = c .telemetry .request; requestSent = none } in
+    either left (demandExpired now (clearRequestSent c .demand)) refl refl
 
+-- and leaves a run of commands
 pub leased-run : (n now : ℕ) (c : Core) → leasedCore n now c .commandSequence ≡ c .commandSequence
 leased-run n now c = leased-keeps (λ (x : Core). x .commandSequence) n now c (λ d t k. refl)
 
--- ---- what a service can do, but send: served of c
+-- ---- what a service can do with a frame in flight: served, of a bank with the core c
 
--- a frame in flight is left alone
+-- it leaves it alone
 pub record Skips (expired : Bool) (c : Core) (replies : List LaneReply) (buffers : Buffers) (served : Served) : Type 0 where
   pub event : served .event ≡ pick expired lease-expired busy
   pub orders : served .orders ≡ []
@@ -47,7 +49,7 @@ pub record Skips (expired : Bool) (c : Core) (replies : List LaneReply) (buffers
   pub sameReplies : served .bank .replies ≡ replies
   pub sameBuffers : served .buffers ≡ buffers
 
--- a frame in flight times out
+-- it finds that it has timed out
 pub record TimesOut (n : ℕ) (c : Core) (replies : List LaneReply) (buffers : Buffers) (served : Served) : Type 0 where
   pub event : served .event ≡ faulted
   pub orders : served .orders ≡ latchOrders n
@@ -64,8 +66,6 @@ module _ (n now : ℕ) (taken present : List Bool) (masks samples : List ℕ) (r
 
   abbrev expired : Bool
   expired = demandExpired now (c .demand)
-
-  -- ---- a frame in flight
 
   module _ (f : c .frame .faulted ≡ false) (b : c .frame .busy ≡ true) where
     -- it is skipped or latched, and nothing is sent

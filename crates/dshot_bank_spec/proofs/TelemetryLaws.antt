@@ -38,7 +38,7 @@ module _ (n : ℕ) (s : State) (motor : ℕ) (there : motor < n) where
     abbrev asked : Telemetry
     asked = record { request = some motor; requestSent = s .bank .core .telemetry .requestSent }
 
-    -- and else it is pending, of its lane, and nothing else changes
+    -- and else it is pending for its lane, and nothing else changes
     pub request-taken : s .bank .core .telemetry .request ≡ none → requested ≡ changed s done (withTelemetry asked (s .bank .core))
     unfolding requestTelemetry
     request-taken e = request-acts (Reply.given (withTelemetry asked (s .bank .core))) (off _ _ f (off _ _ (ap isSome e) refl))

@@ -38,7 +38,8 @@ module _ (n : ℕ) (s : State) (f : s .bank .core .frame .faulted ≡ true) wher
   act-stays cancel-telemetry-request = f
   act-stays take-telemetry-request-sent = f
   act-stays (service-call now taken present masks samples) =
-      ap (λ (z : Served). z .bank .core .frame .faulted) (faulted-serves (s .bank .core) f n now taken present masks samples (s .bank .replies) (s .buffers)) ∙ f
+      let serves = faulted-serves (s .bank .core) f n now taken present masks samples (s .bank .replies) (s .buffers) in
+      ap (λ (z : Served). z .bank .core .frame .faulted) serves ∙ f
   act-stays (on-dma-interrupt motor complete error turned back) =
       ap (λ (r : Interrupted). r .core .frame .faulted) (faulted-interrupts (s .bank .core) f n motor complete error turned back) ∙ f
   act-stays take-replies = f

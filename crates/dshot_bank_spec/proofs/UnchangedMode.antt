@@ -29,7 +29,9 @@ In m c = c .frame .bidirectional ≡ m
 module _ (n now : ℕ) (m : Bool) where
   busy-mode : (expired : Bool) (c : Core) → In m c → In m (serviceBusy n now expired c .core)
   unfolding serviceBusy latchFault commandStop
-  busy-mode expired c h = let kept : Skipped → Type 0 = λ k. In m (k .core) in either kept (leaseExpired (c .frame .startedMs) 1 now) h (either kept expired h h)
+  busy-mode expired c h =
+      let kept : Skipped → Type 0 = λ k. In m (k .core) in
+      either kept (leaseExpired (c .frame .startedMs) 1 now) h (either kept expired h h)
 
   read-mode : (c : Core) → In m c → In m (repliesRead c)
   unfolding repliesRead
@@ -140,5 +142,6 @@ module _ (n : ℕ) (s : State) where
   act-mode (sending motor) e = refl
   act-mode (lend buffers) e = refl
 
+  -- the source sets `bidirectional` in `enable_bidirectional` alone
   pub mode-kept : (c : Call) → enables c ≡ false → Same (step n s c)
   mode-kept c e = either-step n s c Same (act-mode c e) refl
