@@ -86,8 +86,8 @@ pub fn read_number(line: &[u8], from: usize) -> Read
             return finish(value, from, i);
         }
         match grow(value, next) {
-            Grown::To(grown) => {
-                value = grown;
+            Grown::To(larger) => {
+                value = larger;
             }
             Grown::TooLarge => {
                 return Read::Broken;

@@ -57,15 +57,15 @@ pub fn read_packet(packet: DshotPacket) -> FrameRead
 {
     let payload = packet.0 / 16;
     let sent = packet.0 % 16;
-    let plain = checksum_of(payload);
-    if sent == plain {
+    let expected = checksum_of(payload);
+    if sent == expected {
         return FrameRead::Frame {
             value: payload / 2,
             telemetry: payload % 2 == 1,
             checksum: ChecksumKind::Plain,
         };
     }
-    if sent == plain ^ 0x0f {
+    if sent == expected ^ 0x0f {
         return FrameRead::Frame {
             value: payload / 2,
             telemetry: payload % 2 == 1,

@@ -147,13 +147,13 @@ fn eight_high(samples: &[u16], at: usize, pin_mask: u16) -> bool
     requires { ⌜ at + 8 ≤ length (now samples) ⌝ }
     ensures { λ r. ⌜ (r ≡ true → firstLow (levels «pin_mask» (drop at (now (samples .entry)))) ≡ firstLow (levels «pin_mask» (drop (at + 8) (now (samples .entry)))) + 8) ⌝ }
 {
-    let mut high = true;
+    let mut all_high = true;
     let mut k = 0;
     while k < 8 {
-        high = high & is_high(samples[at + k], pin_mask);
+        all_high = all_high & is_high(samples[at + k], pin_mask);
         k += 1;
     }
-    high
+    all_high
 }
 
 // Passes high samples by eights.
@@ -186,14 +186,14 @@ fn run_end(samples: &[u16], pin_mask: u16, level: bool, from: usize) -> usize
 }
 
 // The same as `run_end`, with a loop of its own for each level, which is faster.
-fn next_edge(window: &[u16], pin_mask: u16, level: bool, from: usize) -> usize
-    requires { ⌜ from ≤ length (now window) ⌝ }
-    ensures { λ r. ⌜ r ≡ from + sameFor level (levels «pin_mask» (drop from (now (window .entry)))) ⌝ }
+fn next_edge(samples: &[u16], pin_mask: u16, level: bool, from: usize) -> usize
+    requires { ⌜ from ≤ length (now samples) ⌝ }
+    ensures { λ r. ⌜ r ≡ from + sameFor level (levels «pin_mask» (drop from (now (samples .entry)))) ⌝ }
 {
     if level {
-        return run_end(window, pin_mask, true, from);
+        return run_end(samples, pin_mask, true, from);
     }
-    run_end(window, pin_mask, false, from)
+    run_end(samples, pin_mask, false, from)
 }
 
 // The place of the first low sample, or the length where there is none.
@@ -235,17 +235,17 @@ fn close(bits: u32, transitions: u32) -> Transitions
     Transitions::Word(transitions)
 }
 
-// The finished runs of a window, which starts with the start edge, as transition bits.
-fn read_runs(window: &[u16], pin_mask: u16) -> Transitions
-    requires { ⌜ length (now window) ≤ 69 ⌝ }
-    ensures { λ r. ⌜ transitionsAnswer r ≡ assemble (runsOf 3 (levels «pin_mask» (now (window .entry)))) ⌝ }
+// The finished runs of samples that begin at the start edge, as transition bits.
+fn read_runs(samples: &[u16], pin_mask: u16) -> Transitions
+    requires { ⌜ length (now samples) ≤ 69 ⌝ }
+    ensures { λ r. ⌜ transitionsAnswer r ≡ assemble (runsOf 3 (levels «pin_mask» (now (samples .entry)))) ⌝ }
 {
     let mut level = false;
     let mut run_start: usize = 0;
     let mut bits: u32 = 0;
     let mut transitions: u32 = 0;
-    let mut edge = next_edge(window, pin_mask, level, run_start);
-    while edge < window.len() {
+    let mut edge = next_edge(samples, pin_mask, level, run_start);
+    while edge < samples.len() {
         let run = run_bits(edge - run_start);
         if REPLY_BITS - bits < run {
             return Transitions::Refused(DshotReplyError::Overlong);
@@ -254,7 +254,7 @@ fn read_runs(window: &[u16], pin_mask: u16) -> Transitions
         bits += run;
         run_start = edge;
         level = !level;
-        edge = next_edge(window, pin_mask, level, run_start);
+        edge = next_edge(samples, pin_mask, level, run_start);
     }
     close(bits, transitions)
 }

@@ -40,10 +40,10 @@ pub fn period_value(period_us: u32) -> PeriodValue
     PeriodValue::Value((exponent * 512 + left) as u16)
 }
 
-fn next_level(level: bool, bit: u32) -> bool
-    ensures { λ r. ⌜ r ≡ nextLevel level bit ⌝ }
+fn next_level(level: bool, transition: u32) -> bool
+    ensures { λ r. ⌜ r ≡ nextLevel level transition ⌝ }
 {
-    if bit == 1 { !level } else { level }
+    if transition == 1 { !level } else { level }
 }
 
 fn level_sample(level: bool, pin_mask: u16) -> u16
@@ -98,13 +98,13 @@ pub fn simulated_number(answer: Simulated) -> u32
 }
 
 // What a call with such a buffer, lead and mask answers: it needs room for the lead and two bits more than a reply, and a pin.
-fn answer_for(length: usize, lead: usize, pin_mask: u16) -> Simulated
-    ensures { λ r. ⌜ simulatedNumber r ≡ simulatedRefusal 3 length lead «pin_mask» ⌝ }
+fn answer_for(out_length: usize, lead: usize, pin_mask: u16) -> Simulated
+    ensures { λ r. ⌜ simulatedNumber r ≡ simulatedRefusal 3 «out_length» lead «pin_mask» ⌝ }
 {
-    if length < MAX_REPLY_SAMPLES {
+    if out_length < MAX_REPLY_SAMPLES {
         return Simulated::WrongLength;
     }
-    if length - MAX_REPLY_SAMPLES < lead {
+    if out_length - MAX_REPLY_SAMPLES < lead {
         return Simulated::WrongLength;
     }
     if pin_mask == 0 {

@@ -20,16 +20,15 @@ ghost use Rattle.kuzhenga.specs.CaptureSlots.{captureSlots, countSlot, l
 
 // Reads a file. Its samples are put into the first of the slots, and how many they are, the mask and EDT (0 or 1) into three.
 #[no_mangle]
-pub extern "C" fn kuzhenga_read_capture(
-    file: &[u8],
-    samples: &mut [u16],
-    capture: &mut [u16],
-) -> u32
-    ensures { λ r. ⌜ r ≡ refusalNumber (asked 3 (now (capture .entry)) (readInto (now (file .entry)) (now (samples .entry)))) ⌝ }
-    ensures { λ r. ⌜ now (samples .exit) ≡ filled (slotsOf (now (samples .entry))) (now (samples .entry)) (asked 3 (now (capture .entry)) (readInto (now (file .entry)) (now (samples .entry)))) ⌝ }
-    ensures { λ r. ⌜ now (capture .exit) ≡ filled captureSlots (now (capture .entry)) (asked 3 (now (capture .entry)) (readInto (now (file .entry)) (now (samples .entry)))) ⌝ }
+pub extern "C" fn kuzhenga_read_capture(file: &[u8], samples: &mut [u16], about: &mut [u16]) -> u32
+    ensures { λ r. ⌜ r ≡ refusalNumber (asked 3 (now (about .entry)) (readInto (now (file .entry)) (now (samples .entry)))) ⌝ }
+    ensures { λ r. ⌜ now (samples .exit)
+        ≡ filled (slotsOf (now (samples .entry))) (now (samples .entry))
+        (asked 3 (now (about .entry)) (readInto (now (file .entry)) (now (samples .entry)))) ⌝ }
+    ensures { λ r. ⌜ now (about .exit)
+        ≡ filled captureSlots (now (about .entry)) (asked 3 (now (about .entry)) (readInto (now (file .entry)) (now (samples .entry)))) ⌝ }
 {
-    if capture.len() != 3 {
+    if about.len() != 3 {
         return WRONG_LENGTH;
     }
     match capture_file::file::read_capture(file, samples) {
@@ -38,9 +37,9 @@ pub extern "C" fn kuzhenga_read_capture(
             mask,
             extended_telemetry,
         } => {
-            capture[0] = count as u16;
-            capture[1] = mask;
-            capture[2] = slots::flag_of(extended_telemetry);
+            about[0] = count as u16;
+            about[1] = mask;
+            about[2] = slots::flag_of(extended_telemetry);
             0
         }
         CaptureRead::NotACapture => NOT_A_CAPTURE,
@@ -55,13 +54,22 @@ pub extern "C" fn kuzhenga_write_capture(
     pin_mask: u32,
     extended_telemetry: u32,
     file: &mut [u8],
-    length: &mut [u16],
+    file_length: &mut [u16],
 ) -> u32
-    ensures { λ r. ⌜ r ≡ refusalNumber (asked 1 (now (length .entry)) (writtenInto (capture («pin_mask» % 65536) (not (eqb «extended_telemetry» 0)) (now (samples .entry))) (now (file .entry)))) ⌝ }
-    ensures { λ r. ⌜ now (file .exit) ≡ filled (front (now (file .entry))) (now (file .entry)) (asked 1 (now (length .entry)) (writtenInto (capture («pin_mask» % 65536) (not (eqb «extended_telemetry» 0)) (now (samples .entry))) (now (file .entry)))) ⌝ }
-    ensures { λ r. ⌜ now (length .exit) ≡ filled countSlot (now (length .entry)) (asked 1 (now (length .entry)) (writtenInto (capture («pin_mask» % 65536) (not (eqb «extended_telemetry» 0)) (now (samples .entry))) (now (file .entry)))) ⌝ }
+    ensures { λ r. ⌜ r
+        ≡ refusalNumber
+        (asked 1 (now («file_length» .entry))
+        (writtenInto (capture («pin_mask» % 65536) (not (eqb «extended_telemetry» 0)) (now (samples .entry))) (now (file .entry)))) ⌝ }
+    ensures { λ r. ⌜ now (file .exit)
+        ≡ filled (front (now (file .entry))) (now (file .entry))
+        (asked 1 (now («file_length» .entry))
+        (writtenInto (capture («pin_mask» % 65536) (not (eqb «extended_telemetry» 0)) (now (samples .entry))) (now (file .entry)))) ⌝ }
+    ensures { λ r. ⌜ now («file_length» .exit)
+        ≡ filled countSlot (now («file_length» .entry))
+        (asked 1 (now («file_length» .entry))
+        (writtenInto (capture («pin_mask» % 65536) (not (eqb «extended_telemetry» 0)) (now (samples .entry))) (now (file .entry)))) ⌝ }
 {
-    if length.len() != 1 {
+    if file_length.len() != 1 {
         return WRONG_LENGTH;
     }
     match capture_file::file::write_capture(
@@ -71,7 +79,7 @@ pub extern "C" fn kuzhenga_write_capture(
         file,
     ) {
         CaptureWritten::Length(bytes) => {
-            length[0] = bytes as u16;
+            file_length[0] = bytes as u16;
             0
         }
         CaptureWritten::WrongLength => WRONG_LENGTH,
@@ -80,20 +88,29 @@ pub extern "C" fn kuzhenga_write_capture(
 
 // The line of a file with zeros after it, and its length in one slot. A file that holds no capture has the line `refused 17`: the call is done.
 #[no_mangle]
-pub extern "C" fn kuzhenga_list_capture(file: &[u8], line: &mut [u8], length: &mut [u16]) -> u32
-    ensures { λ r. ⌜ r ≡ refusalNumber (asked 32 (now (line .entry)) (asked 1 (now (length .entry)) (given (fileLine (now (file .entry)))))) ⌝ }
-    ensures { λ r. ⌜ now (line .exit) ≡ filled lineBytes (now (line .entry)) (asked 32 (now (line .entry)) (asked 1 (now (length .entry)) (given (fileLine (now (file .entry)))))) ⌝ }
-    ensures { λ r. ⌜ now (length .exit) ≡ filled countSlot (now (length .entry)) (asked 32 (now (line .entry)) (asked 1 (now (length .entry)) (given (fileLine (now (file .entry)))))) ⌝ }
+pub extern "C" fn kuzhenga_list_capture(
+    file: &[u8],
+    line: &mut [u8],
+    line_length: &mut [u16],
+) -> u32
+    ensures { λ r. ⌜ r
+        ≡ refusalNumber (asked 32 (now (line .entry)) (asked 1 (now («line_length» .entry)) (given (fileLine (now (file .entry)))))) ⌝ }
+    ensures { λ r. ⌜ now (line .exit)
+        ≡ filled lineBytes (now (line .entry))
+        (asked 32 (now (line .entry)) (asked 1 (now («line_length» .entry)) (given (fileLine (now (file .entry)))))) ⌝ }
+    ensures { λ r. ⌜ now («line_length» .exit)
+        ≡ filled countSlot (now («line_length» .entry))
+        (asked 32 (now (line .entry)) (asked 1 (now («line_length» .entry)) (given (fileLine (now (file .entry)))))) ⌝ }
 {
     if line.len() != LINE_ROOM {
         return WRONG_LENGTH;
     }
-    if length.len() != 1 {
+    if line_length.len() != 1 {
         return WRONG_LENGTH;
     }
     let made = capture_file::list::file_line(file);
     let bytes = made.bytes;
-    length[0] = made.length as u16;
+    line_length[0] = made.length as u16;
     slots::put_bytes(line, &bytes);
     0
 }

@@ -12,11 +12,11 @@ use Rattle.dshot_reply_spec.specs.Runs.{high}
 use Rattle.dshot_reply.proofs.Levels.{HighFor, high-more, high-none}
 
 abbrev Inv-loop : tie.InvT-loop
-Inv-loop samples at pin-mask high₀ k₀ high k =
-    (k ≤ 8) × (high ≡ true → HighFor pin-mask samples at k)
+Inv-loop samples at pin-mask all-high₀ k₀ all-high k =
+    (k ≤ 8) × (all-high ≡ true → HighFor pin-mask samples at k)
 
 abbrev μ-loop : tie.MeasureT-loop
-μ-loop samples at pin-mask high₀ k₀ high k = 8 - k
+μ-loop samples at pin-mask all-high₀ k₀ all-high k = 8 - k
 
 loop-holds : tie.Need-loop-holds Inv-loop μ-loop
 loop-holds c =
@@ -45,7 +45,7 @@ loop-again : tie.Need-loop-again Inv-loop μ-loop
 loop-again c =
     let a = c .before .before .before .before .before .args in
     let v = c .before .before .before .loop in
-    (search needs, high-more (a .pin-mask) (a .samples .now) (a .at) (v .k) (v .high) (c .is-high .result) (search needs) (c .is-high .ensures) (v .inv .1))
+    (search needs, high-more (a .pin-mask) (a .samples .now) (a .at) (v .k) (v .all-high) (c .is-high .result) (search needs) (c .is-high .ensures) (v .inv .1))
 
 returns : tie.Need-returns Inv-loop μ-loop
 returns c =

@@ -15,16 +15,16 @@ use Rattle.dshot_reply.proofs.WordLaws.{push-lt, push-room}
 use Rattle.dshot_reply.specs.Steps.{sameFor}
 
 abbrev Inv-loop : tie.InvT-loop
-Inv-loop window pin-mask level₀ run-start₀ bits₀ transitions₀ edge₀ level run-start bits transitions edge =
-    (run-start ≤ length window)
-    × (edge ≡ run-start + sameFor level (levels pin-mask (drop run-start window)))
-    × (edge ≤ length window)
+Inv-loop samples pin-mask level₀ run-start₀ bits₀ transitions₀ edge₀ level run-start bits transitions edge =
+    (run-start ≤ length samples)
+    × (edge ≡ run-start + sameFor level (levels pin-mask (drop run-start samples)))
+    × (edge ≤ length samples)
     × (bits ≤ 21)
     × (transitions < 2 ^ bits)
-    × (assemble (runsOf 3 (levels pin-mask window)) ≡ rest 3 pin-mask window run-start level bits transitions)
+    × (assemble (runsOf 3 (levels pin-mask samples)) ≡ rest 3 pin-mask samples run-start level bits transitions)
 
 abbrev μ-loop : tie.MeasureT-loop
-μ-loop window pin-mask level₀ run-start₀ bits₀ transitions₀ edge₀ level run-start bits transitions edge = 21 - bits
+μ-loop samples pin-mask level₀ run-start₀ bits₀ transitions₀ edge₀ level run-start bits transitions edge = 21 - bits
 
 next-edge-requires : tie.Need-next-edge-requires Inv-loop μ-loop
 next-edge-requires c κs = search needs
@@ -35,10 +35,10 @@ loop-holds c =
     let e = c .next-edge in (
       search needs,
       e .ensures,
-      ends-within (a .pin-mask) (a .window .now) false 0 (e .result) (search needs) (e .ensures),
+      ends-within (a .pin-mask) (a .samples .now) false 0 (e .result) (search needs) (e .ensures),
       search needs,
       search needs,
-      rest-start 3 (a .pin-mask) (a .window .now),
+      rest-start 3 (a .pin-mask) (a .samples .now),
     )
 
 sub-run-bits : tie.Need-sub-run-bits Inv-loop μ-loop
@@ -57,7 +57,7 @@ returns c =
     let r = c .before .run-bits in
     sym
     (v .inv .5
-    ∙ rest-over 3 (a .pin-mask) (a .window .now) (v .run-start) (v .edge) (v .level) (v .bits) (v .transitions) (v .inv .1) (r .result) (search needs) (r .ensures) (omega arith))
+    ∙ rest-over 3 (a .pin-mask) (a .samples .now) (v .run-start) (v .edge) (v .level) (v .bits) (v .transitions) (v .inv .1) (r .result) (search needs) (r .ensures) (omega arith))
 
 push-run-requires : tie.Need-push-run-requires Inv-loop μ-loop
 push-run-requires c κs =
@@ -83,12 +83,12 @@ loop-again c =
     let e = c .next-edge2 in (
       search needs,
       e .ensures,
-      ends-within (a .pin-mask) (a .window .now) (not (v .level)) (v .edge) (e .result) (search needs) (e .ensures),
+      ends-within (a .pin-mask) (a .samples .now) (not (v .level)) (v .edge) (e .result) (search needs) (e .ensures),
       omega arith,
       rw (p .ensures) (push-lt (v .transitions) (v .bits) (r .result) (v .inv .4) (omega arith)),
       rw (p .ensures)
           (v .inv .5
-          ∙ rest-run 3 (a .pin-mask) (a .window .now) (v .run-start) (v .edge) (v .level) (v .bits) (v .transitions) (v .inv .1) (r .result) (search needs) (r .ensures)),
+          ∙ rest-run 3 (a .pin-mask) (a .samples .now) (v .run-start) (v .edge) (v .level) (v .bits) (v .transitions) (v .inv .1) (r .result) (search needs) (r .ensures)),
     )
 
 close-requires : tie.Need-close-requires Inv-loop μ-loop
@@ -101,7 +101,7 @@ returns-2 c =
     c .close .ensures
     ∙ sym
     (v .inv .5
-    ∙ rest-end 3 (a .pin-mask) (a .window .now) (v .run-start) (v .edge) (v .level) (v .bits) (v .transitions) (v .inv .1) (omega arith) (v .inv .3))
+    ∙ rest-end 3 (a .pin-mask) (a .samples .now) (v .run-start) (v .edge) (v .level) (v .bits) (v .transitions) (v .inv .1) (omega arith) (v .inv .3))
 
 pub read-runs-spec : {M : Type 1} → statement M
 read-runs-spec =

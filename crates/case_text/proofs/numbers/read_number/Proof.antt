@@ -43,8 +43,8 @@ returns c =
 grow-requires : tie.Need-grow-requires Inv-loop μ-loop
 grow-requires c κs = search needs
 
-enum-known-grown : tie.Need-enum-known-grown Inv-loop μ-loop
-enum-known-grown c = search needs
+enum-known-larger : tie.Need-enum-known-larger Inv-loop μ-loop
+enum-known-larger c = search needs
 
 enum-told : tie.Need-enum-told Inv-loop μ-loop
 enum-told c = search needs
@@ -71,7 +71,7 @@ loop-again c =
     let v = c .before .before .before .before .before .before .before .before .loop in
     let d = c .before .before .before .before .before .digit in
     let n = v .value * 10 + d .result in
-    let x = c .before .grown .given .0 .0 in
+    let x = c .before .larger .given .0 .0 in
     let g : To x ≡ grown n = cc in
     let more = read-more (a .line .now) (a .from) (v .value) (v .i) (search needs) (λ e. c .before .before .before .before .if1 .left (d .ensures ∙ e)) in
     let to : x ≡ n = grown-to n x g in
@@ -98,7 +98,7 @@ read-number-spec =
     finish-requires
     returns
     grow-requires
-    enum-known-grown
+    enum-known-larger
     enum-told
     returns-2
     add-i

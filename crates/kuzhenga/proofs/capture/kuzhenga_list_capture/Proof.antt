@@ -22,14 +22,14 @@ returns-2 c = refused-both lineBytes countSlot _ _ (asked-so _ 32 _ (c .before .
 file-line-requires : tie.Need-file-line-requires
 file-line-requires c κs = search needs
 
-cast-length : tie.Need-cast-length
-cast-length c =
+cast-line-length : tie.Need-cast-line-length
+cast-line-length c =
     let line = c .before .before .file-line in
     let room = file-line-room _ (line .result) (line .ensures) in
     omega arith
 
-slice-write-length : tie.Need-slice-write-length
-slice-write-length c = search needs
+slice-write-line-length : tie.Need-slice-write-line-length
+slice-write-line-length c = search needs
 
 slice-aggregate-put-bytes : tie.Need-slice-aggregate-put-bytes
 slice-aggregate-put-bytes c = search needs
@@ -52,9 +52,9 @@ returns-3 c =
     let a = line .before .before .before .before .before .before .args in
     let made = line .file-line in
     let h = line .before .if2 .left in
-    given-both lineBytes countSlot _ _ (asked-so (a .line .now) 32 _ (line .before .before .if1 .left) ∙ asked-so (a .length .now) 1 _ h)
+    given-both lineBytes countSlot _ _ (asked-so (a .line .now) 32 _ (line .before .before .if1 .left) ∙ asked-so (a .line-length .now) 1 _ h)
     (c .before .before .put-bytes .ensures ∙ ap (λ (l : Line). l .bytes) (made .ensures))
-    (all-set (a .length .now) (made .result .length ∷ []) h ∙ ap (λ (l : Line). one (l .length)) (made .ensures))
+    (all-set (a .line-length .now) (made .result .length ∷ []) h ∙ ap (λ (l : Line). one (l .length)) (made .ensures))
 
 pub kuzhenga-list-capture-spec : {M : Type 1} → statement M
 kuzhenga-list-capture-spec =
@@ -63,8 +63,8 @@ kuzhenga-list-capture-spec =
     returns
     returns-2
     file-line-requires
-    cast-length
-    slice-write-length
+    cast-line-length
+    slice-write-line-length
     slice-aggregate-put-bytes
     put-bytes-requires
     same-length

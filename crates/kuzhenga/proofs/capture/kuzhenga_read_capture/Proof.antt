@@ -19,7 +19,7 @@ use Rattle.kuzhenga.proofs.capture.kuzhenga_read_capture.Tie as tie
 returns : tie.Need-returns
 returns c =
     let a = c .before .before .before .before .args in
-    wrong-slots (slotsOf (a .samples .now)) captureSlots (a .samples .now) (a .capture .now) 3 (readInto (a .file .now) (a .samples .now)) (c .if1 .taken)
+    wrong-slots (slotsOf (a .samples .now)) captureSlots (a .samples .now) (a .about .now) 3 (readInto (a .file .now) (a .samples .now)) (c .if1 .taken)
 
 read-capture-requires : tie.Need-read-capture-requires
 read-capture-requires c κs = search needs
@@ -27,23 +27,23 @@ read-capture-requires c κs = search needs
 enum-known-count : tie.Need-enum-known-count
 enum-known-count c = search needs
 
-cast-capture : tie.Need-cast-capture
-cast-capture c =
+cast-about : tie.Need-cast-about
+cast-about c =
     let read = c .before .before .before .before .before in
     let e = sym (ap readAnswer (c .before .count .given .1)) ∙ read .read-capture .ensures .0 in
     omega (arith, count-fits _ _ _ e)
 
-slice-write-capture : tie.Need-slice-write-capture
-slice-write-capture c = search needs
+slice-write-about : tie.Need-slice-write-about
+slice-write-about c = search needs
 
-slice-write-capture-2 : tie.Need-slice-write-capture-2
-slice-write-capture-2 c = simp length-set (omega arith)
+slice-write-about-2 : tie.Need-slice-write-about-2
+slice-write-about-2 c = simp length-set (omega arith)
 
 flag-of-requires : tie.Need-flag-of-requires
 flag-of-requires c κs = search needs
 
-slice-write-capture-3 : tie.Need-slice-write-capture-3
-slice-write-capture-3 c = simp length-set (omega arith)
+slice-write-about-3 : tie.Need-slice-write-about-3
+slice-write-about-3 c = simp length-set (omega arith)
 
 enum-told : tie.Need-enum-told
 enum-told c = search needs
@@ -67,9 +67,9 @@ returns-2 c =
     let is = capture-of (a .file .now) (a .samples .now) _ e in
     let count = found .count .given .0 .0 in
     let mask = found .count .given .0 .1 .0 in
-    given-on (slotsOf (a .samples .now)) captureSlots (a .samples .now) (a .capture .now) 3 (readInto (a .file .now) (a .samples .now))
+    given-on (slotsOf (a .samples .now)) captureSlots (a .samples .now) (a .about .now) 3 (readInto (a .file .now) (a .samples .now))
     h (read .read-capture .ensures .1) (is .1)
-    (all-set (a .capture .now) (count ∷ mask ∷ c .flag-of .result ∷ []) h
+    (all-set (a .about .now) (count ∷ mask ∷ c .flag-of .result ∷ []) h
     ∙ ap (λ (n : ℕ). count ∷ mask ∷ n ∷ []) (c .flag-of .ensures)
     ∙ told-slots (is .0) _ (is .2))
 
@@ -81,7 +81,7 @@ returns-3 c =
     let read = c .before .before .before .before in
     let a = read .before .before .before .before .before .before .args in
     let e = sym (ap readAnswer (c .enum-told .given .1)) ∙ read .read-capture .ensures .0 in
-    refused-on (slotsOf (a .samples .now)) captureSlots (a .samples .now) (a .capture .now) 3 (readInto (a .file .now) (a .samples .now))
+    refused-on (slotsOf (a .samples .now)) captureSlots (a .samples .now) (a .about .now) 3 (readInto (a .file .now) (a .samples .now))
     (read .before .before .if1 .left) (read .read-capture .ensures .1) (then-refused _ _ (sym e))
 
 same-length-4 : tie.Need-same-length-4
@@ -92,7 +92,7 @@ returns-4 c =
     let read = c .before .before .before .before in
     let a = read .before .before .before .before .before .before .args in
     let e = sym (ap readAnswer (c .enum-told2 .given .1)) ∙ read .read-capture .ensures .0 in
-    refused-on (slotsOf (a .samples .now)) captureSlots (a .samples .now) (a .capture .now) 3 (readInto (a .file .now) (a .samples .now))
+    refused-on (slotsOf (a .samples .now)) captureSlots (a .samples .now) (a .about .now) 3 (readInto (a .file .now) (a .samples .now))
     (read .before .before .if1 .left) (read .read-capture .ensures .1) (then-refused _ _ (sym e))
 
 pub kuzhenga-read-capture-spec : {M : Type 1} → statement M
@@ -102,11 +102,11 @@ kuzhenga-read-capture-spec =
     returns
     read-capture-requires
     enum-known-count
-    cast-capture
-    slice-write-capture
-    slice-write-capture-2
+    cast-about
+    slice-write-about
+    slice-write-about-2
     flag-of-requires
-    slice-write-capture-3
+    slice-write-about-3
     enum-told
     enum-told-2
     same-length

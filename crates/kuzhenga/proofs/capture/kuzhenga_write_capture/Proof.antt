@@ -19,7 +19,7 @@ use Rattle.kuzhenga.proofs.capture.kuzhenga_write_capture.Tie as tie
 returns : tie.Need-returns
 returns c =
     let a = c .before .before .before .before .args in
-    wrong-slots (front (a .file .now)) countSlot (a .file .now) (a .length .now) 1 _ (c .if1 .taken)
+    wrong-slots (front (a .file .now)) countSlot (a .file .now) (a .file-length .now) 1 _ (c .if1 .taken)
 
 cast-write-capture : tie.Need-cast-write-capture
 cast-write-capture c = search needs
@@ -30,13 +30,13 @@ write-capture-requires c κs = search needs
 enum-known-bytes : tie.Need-enum-known-bytes
 enum-known-bytes c = search needs
 
-cast-length : tie.Need-cast-length
-cast-length c =
+cast-file-length : tie.Need-cast-file-length
+cast-file-length c =
     let did = c .before .before .before .before .before .write-capture in
     omega (arith, written-fits _ _ _ (sym (ap writtenAnswer (c .before .bytes .given .1)) ∙ did .ensures .0))
 
-slice-write-length : tie.Need-slice-write-length
-slice-write-length c = search needs
+slice-write-file-length : tie.Need-slice-write-file-length
+slice-write-file-length c = search needs
 
 enum-told : tie.Need-enum-told
 enum-told c = search needs
@@ -53,8 +53,8 @@ returns-2 c =
     let a = write .before .before .before .before .before .before .args in
     let h = write .before .before .if1 .left in
     let is = then-given _ byteCount (sym (write .write-capture .ensures .0) ∙ ap writtenAnswer (c .before .bytes .given .1)) in
-    given-on (front (a .file .now)) countSlot (a .file .now) (a .length .now) 1 _ h (write .write-capture .ensures .1) (is .1)
-    (all-set (a .length .now) (c .before .bytes .given .0 .0 ∷ []) h ∙ ap one (sym (same-given (is .2))))
+    given-on (front (a .file .now)) countSlot (a .file .now) (a .file-length .now) 1 _ h (write .write-capture .ensures .1) (is .1)
+    (all-set (a .file-length .now) (c .before .bytes .given .0 .0 ∷ []) h ∙ ap one (sym (same-given (is .2))))
 
 same-length-3 : tie.Need-same-length-3
 same-length-3 c = search needs
@@ -64,7 +64,7 @@ returns-3 c =
     let write = c .before .before .before .before in
     let a = write .before .before .before .before .before .before .args in
     let e = sym (write .write-capture .ensures .0) ∙ ap writtenAnswer (c .enum-told .given .1) in
-    refused-on (front (a .file .now)) countSlot (a .file .now) (a .length .now) 1 _ (write .before .before .if1 .left) (write .write-capture .ensures .1)
+    refused-on (front (a .file .now)) countSlot (a .file .now) (a .file-length .now) 1 _ (write .before .before .if1 .left) (write .write-capture .ensures .1)
     (then-refused _ _ e)
 
 pub kuzhenga-write-capture-spec : {M : Type 1} → statement M
@@ -75,8 +75,8 @@ kuzhenga-write-capture-spec =
     cast-write-capture
     write-capture-requires
     enum-known-bytes
-    cast-length
-    slice-write-length
+    cast-file-length
+    slice-write-file-length
     enum-told
     same-length
     same-length-2
