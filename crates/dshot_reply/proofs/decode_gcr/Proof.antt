@@ -9,21 +9,19 @@ use Rattle.dshot_reply_spec.specs.Gcr.{nibbleOf}
 use Rattle.dshot_reply.proofs.DecodeLaws.{decode-last, decode-three, decode-unequal, decode-value}
 use Rattle.dshot_reply.proofs.Tables.{decode-test, decode-rule}
 
+-- the table's test over all its entries runs here; the other calls cite it
 symbol-nibble-requires : tie.Need-symbol-nibble-requires
 unfolding decode-test nibbleOf
 symbol-nibble-requires c κs = (decode-rule _ tt, search needs)
 
 symbol-nibble-requires-2 : tie.Need-symbol-nibble-requires-2
-unfolding decode-test nibbleOf
-symbol-nibble-requires-2 c κs = (decode-rule _ tt, search needs)
+symbol-nibble-requires-2 c κs = (symbol-nibble-requires (c .before .before) κs .0, search needs)
 
 symbol-nibble-requires-3 : tie.Need-symbol-nibble-requires-3
-unfolding decode-test nibbleOf
-symbol-nibble-requires-3 c κs = (decode-rule _ tt, search needs)
+symbol-nibble-requires-3 c κs = (symbol-nibble-requires (c .before .before .before .before) κs .0, search needs)
 
 symbol-nibble-requires-4 : tie.Need-symbol-nibble-requires-4
-unfolding decode-test nibbleOf
-symbol-nibble-requires-4 c κs = (decode-rule _ tt, search needs)
+symbol-nibble-requires-4 c κs = (symbol-nibble-requires (c .before .before .before .before .before .before) κs .0, search needs)
 
 add-if1 : tie.Need-add-if1
 add-if1 c = search needs

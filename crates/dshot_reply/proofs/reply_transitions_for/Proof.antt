@@ -7,23 +7,21 @@ use Rattle.dshot_reply_spec.proofs.Decode.{nibble-lt}
 use Rattle.dshot_reply_spec.specs.Gcr.{replyWord, wordOf}
 use Rattle.dshot_reply.proofs.Tables.{encode-test, encode-rule}
 
+-- the table's test over all its entries runs here; the other calls cite it
 nibble-symbol-requires : tie.Need-nibble-symbol-requires
 unfolding encode-test
 nibble-symbol-requires c κs = (encode-rule _ tt, search needs)
 
 nibble-symbol-requires-2 : tie.Need-nibble-symbol-requires-2
-unfolding encode-test
-nibble-symbol-requires-2 c κs = (encode-rule _ tt, search needs)
+nibble-symbol-requires-2 c κs = (nibble-symbol-requires (c .before .before) κs .0, search needs)
 
 nibble-symbol-requires-3 : tie.Need-nibble-symbol-requires-3
-unfolding encode-test
-nibble-symbol-requires-3 c κs = (encode-rule _ tt, search needs)
+nibble-symbol-requires-3 c κs = (nibble-symbol-requires (c .before .before .before .before) κs .0, search needs)
 
 nibble-symbol-requires-4 : tie.Need-nibble-symbol-requires-4
-unfolding encode-test
 nibble-symbol-requires-4 c κs =
-    let v = c .before .before .before .before .before .before .before .args .value in
-    (encode-rule _ tt, nibble-lt v 0)
+    let first = c .before .before .before .before .before .before in
+    (nibble-symbol-requires first κs .0, nibble-lt (first .before .args .value) 0)
 
 add-result : tie.Need-add-result
 add-result c = search needs
