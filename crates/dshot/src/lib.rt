@@ -3,6 +3,8 @@
 // the wrong length; the readers are added.
 //
 // DShot frames: the packet word of a value, the timer counts and the duties that it is sent as, and runs of special commands.
+//
+// The source's requirements: OUTPUT-001, OUTPUT-002, OUTPUT-004, OUTPUT-005, OUTPUT-006, OUTPUT-007, OUTPUT-008, OUTPUT-009. Safety-critical.
 
 use dshot_reply::REPLY_SAMPLES_PER_BIT;
 use dshot_reply::refusals::PERIOD_TOO_LONG;
@@ -466,8 +468,8 @@ impl DshotCommandSequence {
 
 // Returns true once a bounded command lease is older than its duration.
 //
-// Timestamps are a `u64` millisecond count. The subtraction wraps, so a `now_ms` read before `started_ms` - out of order - counts as expired,
-// the conservative answer, but where the subtraction wraps into the lease.
+// Timestamps are a `u64` millisecond count, which does not wrap in use. The subtraction still wraps, so a `now_ms` read before `started_ms` - out
+// of order - counts as expired, the conservative answer, but where the subtraction wraps into the lease.
 pub fn command_lease_expired(started_ms: u64, duration_ms: u32, now_ms: u64) -> bool
     ensures { λ r. ⌜ r ≡ leaseExpired «started_ms» «duration_ms» «now_ms» ⌝ }
 {

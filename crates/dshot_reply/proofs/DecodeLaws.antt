@@ -3,7 +3,7 @@
 use mathlib.Core.Path.{_≡_, sym, subst, _∙_}
 use mathlib.Core.Logic.{_⊎_, inl, inr, ⊎-elim}
 use mathlib.Core.Bool.{Bool, not}
-use Prim.Native.Nat.{ℕ, zero, suc, _+_, _*_, _/_, _%_, _<_}
+use Prim.Native.Nat.{ℕ, zero, suc, _+_, _*_, _/_, _%_, _<_, _≤_}
 use native.Mathlib.Nat.{div-one}
 use native.Mathlib.Omega.{arith}
 use lib.Bits.{bitXor}
@@ -97,7 +97,7 @@ module _ (w a b c d : ℕ) (ea : a ≡ nibbleOf (w / 32768 % 32)) (eb : b ≡ ni
   decode-unequal h n = whole ∙ unequal places (none-bad (omega arith) (omega arith) (omega arith) (omega arith)) n
 
   -- where three are nibbles and the exclusive or is 0xF, the fourth is one
-  fourth : a + b + c < 46 → bitXor (bitXor (bitXor a b) c) d ≡ 15 → d < 255
+  fourth : a + b + c ≤ 45 → bitXor (bitXor (bitXor a b) c) d ≡ 15 → d < 255
   fourth h n = go mark0
     where
       u : bitXor (bitXor a b) c < 16
@@ -109,7 +109,7 @@ module _ (w a b c d : ℕ) (ea : a ≡ nibbleOf (w / 32768 % 32)) (eb : b ≡ ni
       go (inl e) = absurd (apart (bitXor (bitXor a b) c) u (subst (λ (x : ℕ). bitXor (bitXor (bitXor a b) c) x ≡ 15) e n))
       go (inr l) = omega arith
 
-  pub decode-value : a + b + c < 46 → bitXor (bitXor (bitXor a b) c) d ≡ 15 → decodeWord w ≡ given (a * 256 + b * 16 + c)
+  pub decode-value : a + b + c ≤ 45 → bitXor (bitXor (bitXor a b) c) d ≡ 15 → decodeWord w ≡ given (a * 256 + b * 16 + c)
   unfolding places
   decode-value h n = whole ∙ taken places (none-bad (omega arith) (omega arith) (omega arith) (fourth h n)) n
 

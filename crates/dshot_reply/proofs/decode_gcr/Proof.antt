@@ -29,6 +29,18 @@ add-if1 c = search needs
 add-if1-2 : tie.Need-add-if1-2
 add-if1-2 c = search needs
 
+returns : tie.Need-returns
+returns c =
+    let e = c .before in
+    let d = e .before .before in
+    let b = d .before .before in
+    let a = b .before .before in
+    let w = a .before .before .args .transitions in
+    sym
+    (decode-three w (a .symbol-nibble .result) (b .symbol-nibble2 .result) (d .symbol-nibble3 .result) (e .symbol-nibble4 .result)
+    (a .symbol-nibble .ensures .0) (b .symbol-nibble2 .ensures .0) (d .symbol-nibble3 .ensures .0) (e .symbol-nibble4 .ensures .0)
+    (c .if1 .taken))
+
 mul-value : tie.Need-mul-value
 mul-value c = search needs
 
@@ -41,44 +53,44 @@ add-value c = search needs
 add-value-2 : tie.Need-add-value-2
 add-value-2 c = search needs
 
-cast-t23 : tie.Need-cast-t23
-cast-t23 c = search needs
-
-returns : tie.Need-returns
-returns c =
-    let w = c .before .before .before .before .before .before .before .before .before .before .args .transitions in
-    let a = c .before .before .before .before .before .before .before .before .symbol-nibble in
-    let b = c .before .before .before .before .before .before .symbol-nibble2 in
-    let d = c .before .before .before .before .symbol-nibble3 in
-    let e = c .before .before .symbol-nibble4 in
-    sym (decode-value w (a .result) (b .result) (d .result) (e .result) (a .ensures .0) (b .ensures .0) (d .ensures .0) (e .ensures .0) (c .before .if1 .taken) (c .if2 .taken))
+cast-value : tie.Need-cast-value
+cast-value c = search needs
 
 returns-2 : tie.Need-returns-2
 returns-2 c =
-    let w = c .before .before .before .before .before .before .before .before .before .before .before .args .transitions in
-    let a = c .before .before .before .before .before .before .before .before .before .symbol-nibble in
-    let b = c .before .before .before .before .before .before .before .symbol-nibble2 in
-    let d = c .before .before .before .before .before .symbol-nibble3 in
-    let e = c .before .before .before .symbol-nibble4 in
-    sym (decode-unequal w (a .result) (b .result) (d .result) (e .result) (a .ensures .0) (b .ensures .0) (d .ensures .0) (e .ensures .0) (omega arith) (c .before .if2 .left))
+    let e = c .before .before in
+    let d = e .before .before in
+    let b = d .before .before in
+    let a = b .before .before in
+    let w = a .before .before .args .transitions in
+    sym
+    (decode-value w (a .symbol-nibble .result) (b .symbol-nibble2 .result) (d .symbol-nibble3 .result) (e .symbol-nibble4 .result)
+    (a .symbol-nibble .ensures .0) (b .symbol-nibble2 .ensures .0) (d .symbol-nibble3 .ensures .0) (e .symbol-nibble4 .ensures .0)
+    (c .before .if1 .left) (c .if2 .taken))
 
 returns-3 : tie.Need-returns-3
 returns-3 c =
-    let w = c .before .before .before .before .before .before .before .before .before .before .before .args .transitions in
-    let a = c .before .before .before .before .before .before .before .before .before .symbol-nibble in
-    let b = c .before .before .before .before .before .before .before .symbol-nibble2 in
-    let d = c .before .before .before .before .before .symbol-nibble3 in
-    let e = c .before .before .before .symbol-nibble4 in
-    sym (decode-last w (a .result) (b .result) (d .result) (e .result) (a .ensures .0) (b .ensures .0) (d .ensures .0) (e .ensures .0) (omega arith))
+    let e = c .before .before .before in
+    let d = e .before .before in
+    let b = d .before .before in
+    let a = b .before .before in
+    let w = a .before .before .args .transitions in
+    sym
+    (decode-last w (a .symbol-nibble .result) (b .symbol-nibble2 .result) (d .symbol-nibble3 .result) (e .symbol-nibble4 .result)
+    (a .symbol-nibble .ensures .0) (b .symbol-nibble2 .ensures .0) (d .symbol-nibble3 .ensures .0) (e .symbol-nibble4 .ensures .0)
+    (c .if3 .taken))
 
 returns-4 : tie.Need-returns-4
 returns-4 c =
-    let w = c .before .before .before .before .before .before .before .before .before .args .transitions in
-    let a = c .before .before .before .before .before .before .before .symbol-nibble in
-    let b = c .before .before .before .before .before .symbol-nibble2 in
-    let d = c .before .before .before .symbol-nibble3 in
-    let e = c .before .symbol-nibble4 in
-    sym (decode-three w (a .result) (b .result) (d .result) (e .result) (a .ensures .0) (b .ensures .0) (d .ensures .0) (e .ensures .0) (omega arith))
+    let e = c .before .before .before in
+    let d = e .before .before in
+    let b = d .before .before in
+    let a = b .before .before in
+    let w = a .before .before .args .transitions in
+    sym
+    (decode-unequal w (a .symbol-nibble .result) (b .symbol-nibble2 .result) (d .symbol-nibble3 .result) (e .symbol-nibble4 .result)
+    (a .symbol-nibble .ensures .0) (b .symbol-nibble2 .ensures .0) (d .symbol-nibble3 .ensures .0) (e .symbol-nibble4 .ensures .0)
+    (omega arith) (c .before .if2 .left))
 
 pub decode-gcr-spec : {M : Type 1} → statement M
 decode-gcr-spec =
@@ -90,12 +102,12 @@ decode-gcr-spec =
     symbol-nibble-requires-4
     add-if1
     add-if1-2
+    returns
     mul-value
     mul-value-2
     add-value
     add-value-2
-    cast-t23
-    returns
+    cast-value
     returns-2
     returns-3
     returns-4)

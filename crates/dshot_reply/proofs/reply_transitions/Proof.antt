@@ -13,13 +13,13 @@ use Rattle.dshot_reply.proofs.reply_transitions.Tie as tie
 use Rattle.dshot_reply_spec.specs.Runs.{assemble, levels, runsOf}
 use Rattle.dshot_reply.proofs.Levels.{a-start, levels-most, start-found, start-most, start-none}
 
-start-places-requires : tie.Need-start-places-requires
-start-places-requires c κs = search needs
+possible-starts-requires : tie.Need-possible-starts-requires
+possible-starts-requires c κs = search needs
 
 slice-aggregate-first-low : tie.Need-slice-aggregate-first-low
 slice-aggregate-first-low c =
     let a = c .before .before .before .args in
-    let p = c .before .start-places in
+    let p = c .before .possible-starts in
     sym (length-take-le (p .result) (a .samples .now) (omega (arith, p .ensures)))
 
 first-low-requires : tie.Need-first-low-requires
@@ -28,14 +28,14 @@ first-low-requires c κs = search needs
 returns : tie.Need-returns
 returns c =
     let a = c .before .before .before .before .before .args in
-    let p = c .before .before .before .start-places in
+    let p = c .before .before .before .possible-starts in
     let st = c .before .first-low in
     sym (start-none (a .pin-mask) (p .result) (a .samples .now) (st .result) (st .ensures) (omega (arith, p .ensures)) 3 (omega (arith, p .ensures)) (c .if1 .taken))
 
 sub-at-most : tie.Need-sub-at-most
 sub-at-most c =
     let a = c .before .before .before .before .before .args in
-    let p = c .before .before .before .start-places in
+    let p = c .before .before .before .possible-starts in
     let st = c .before .first-low in
     omega (arith, p .ensures, start-most (a .pin-mask) (p .result) (a .samples .now) (st .result) (st .ensures) (omega (arith, p .ensures)))
 
@@ -48,7 +48,7 @@ add-end c = search needs
 mul-read-runs : tie.Need-mul-read-runs
 mul-read-runs c =
     let a = c .before .before .before .before .before .before .args in
-    let p = c .before .before .before .before .start-places in
+    let p = c .before .before .before .before .possible-starts in
     let st = c .before .before .first-low in
     omega (arith, p .ensures, start-most (a .pin-mask) (p .result) (a .samples .now) (st .result) (st .ensures) (omega (arith, p .ensures)))
 
@@ -61,7 +61,7 @@ part-read-runs-start c = search needs
 part-read-runs-end : tie.Need-part-read-runs-end
 part-read-runs-end c =
     let a = c .before .before .before .before .before .before .args in
-    let p = c .before .before .before .before .start-places in
+    let p = c .before .before .before .before .possible-starts in
     let st = c .before .before .first-low in
     omega (arith, p .ensures, start-most (a .pin-mask) (p .result) (a .samples .now) (st .result) (st .ensures) (omega (arith, p .ensures)))
 
@@ -71,7 +71,7 @@ read-runs-requires c κs = search needs
 returns-2 : tie.Need-returns-2
 returns-2 c =
     let a = c .before .before .before .before .before .before .before .before .args in
-    let p = c .before .before .before .before .before .before .start-places in
+    let p = c .before .before .before .before .before .before .possible-starts in
     let st = c .before .before .before .before .first-low in
     let most = start-most (a .pin-mask) (p .result) (a .samples .now) (st .result) (st .ensures) (omega (arith, p .ensures)) in
     let n : st .result + c .before .before .at-most .result - st .result ≡ min (length (a .samples .now) - st .result) 69 = omega arith in
@@ -87,7 +87,7 @@ pub reply-transitions-spec : {M : Type 1} → statement M
 reply-transitions-spec =
     tie.close
     (tie.spec
-    start-places-requires
+    possible-starts-requires
     slice-aggregate-first-low
     first-low-requires
     returns
