@@ -25,10 +25,10 @@ fn asked(lane: usize) -> String {
     }
 }
 
-/// What a step gives, and then the index and the count after it: it leaves the commands alone.
+/// What a step gives, and then the run after it.
 fn stepped(left: &Left) -> String {
     let [run, value, _] = &left.buffers;
-    format!("{}{}", listed(&value[..2]), listed(&run[2..4]))
+    format!("{}{}", listed(&value[..2]), listed(&run[..4]))
 }
 
 /// The record of a call with buffers of these lengths. The first state of a run and the duty of a

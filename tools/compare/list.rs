@@ -4,7 +4,8 @@
 //! refusal 13, hold those of document 01's sentences, since the source cannot be asked: it has no
 //! simulated ESC (6, 7) and no readers (20, 21), it makes two runs of commands and no others (22),
 //! and its buffers have the right length by their type (13). At a count of 0 the sentences leave a
-//! step free; there kind 22 holds this port's choice, a byte that wraps.
+//! step free; there kind 22 holds this port's choice, a byte that wraps. The last records are wrong on
+//! purpose.
 //!
 //! This program is not linked with the library, so no answer of the library can get into the list.
 
@@ -29,6 +30,8 @@ mod list_random_frames;
 mod list_readers;
 mod list_sequences;
 mod list_values;
+mod list_wrong;
+mod list_wrong_frames;
 mod original;
 mod plain;
 mod plain_frames;
@@ -60,12 +63,13 @@ const FORMS: &str = "\
 # 19 STARTED DURATION NOW EXPIRED: command_lease_expired
 # 20 PACKET REFUSAL VALUE TELEMETRY CHECKSUM: read_packet, checksum 0 plain and 1 inverted
 # 21 FIRST ARR ZERO ONE SAMPLE REFUSAL VALUE TELEMETRY CHECKSUM SLOT*: read_compare_sequence
-# 22 COMMAND*2 INDEX LEFT GIVEN COMMAND INDEX LEFT: next_value of any run, and the run after it
+# 22 COMMAND*2 INDEX LEFT GIVEN COMMAND COMMAND*2 INDEX LEFT: next_value of any run, which is left last
 # 23 CONSTANT*12: the public constants of dshot.rs, in its order
 # Kinds 1 to 5, 8 to 19 and 23 hold the Rust's answers; 6, 7 and 20 to 22, and each refusal 13,
 # those of document 01's sentences. A step at a count of 0 they leave free: it is this port's.
 # What a refusal leaves out is 0, but for slots, which stay as they were. A capture is given as runs
-# of equal samples.";
+# of equal samples. A record that is marked as wrong on purpose has one number that is not the right
+# one: who replays the list must report it, and no other.";
 
 fn main() {
     println!("{FORMS}");
@@ -74,4 +78,5 @@ fn main() {
     list_finding::groups();
     list_random::groups();
     list_frames::groups();
+    list_wrong::groups();
 }

@@ -23,7 +23,7 @@ pub fn groups() {
 }
 
 /// A run of commands: so many steps, of which each gives 1 and a command, or 0 and 0.
-fn command_run(reversed: u32, steps: usize) -> String {
+pub fn command_run(reversed: u32, steps: usize) -> String {
     let mut run = original::spin_direction(reversed);
     let step = |_| match run.next_value() {
         Some(command) => format!(" 1 {command}"),

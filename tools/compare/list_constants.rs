@@ -4,6 +4,10 @@ use ferrowasp_output::dshot::*;
 
 pub fn groups() {
     println!("# the public constants of dshot.rs");
+    println!("{}", record());
+}
+
+pub fn record() -> String {
     let slots = [DSHOT_BITS, RESET_SLOTS, FRAME_SLOTS, COMPARE_DMA_SLOTS];
     let values = [DSHOT_MAX_VALUE, DSHOT_MIN_THROTTLE, DSHOT_MAX_THROTTLE];
     let commands = [
@@ -19,5 +23,5 @@ pub fn groups() {
         .chain(commands.map(u64::from))
         .chain([DSHOT_COMMAND_REPEATS.into()]);
     let text: String = in_order.map(|number| format!(" {number}")).collect();
-    println!("23{text}");
+    format!("23{text}")
 }

@@ -48,6 +48,8 @@ pub fn period_value(period: u32) -> String {
 
 pub fn simulate_reply(length: usize, value: u32, lead: usize, mask: u32) -> String {
     let (refusal, after) = plain::simulate_reply(length, value, lead, mask);
-    let runs = runs_of(&after);
-    format!("7 {length} {value} {lead} {mask} {refusal} {runs}")
+    format!(
+        "7 {length} {value} {lead} {mask} {refusal} {}",
+        runs_of(&after)
+    )
 }

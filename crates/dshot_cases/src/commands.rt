@@ -94,9 +94,9 @@ fn is_run(run: DshotCommandSequence, commands: [u16; 2], index: u64, left: u64) 
     wide8(run.repeats_left) == left
 }
 
-// 22 COMMAND*2 INDEX LEFT GIVEN COMMAND INDEX LEFT, where the last two are the run after the step
+// 22 COMMAND*2 INDEX LEFT GIVEN COMMAND COMMAND*2 INDEX LEFT, where the last four are the run after the step
 pub(crate) fn step(numbers: &[u64]) -> Verdict {
-    if numbers.len() != 9 {
+    if numbers.len() != 11 {
         return Verdict::Unreadable;
     }
     let index = numbers[3];
@@ -108,8 +108,13 @@ pub(crate) fn step(numbers: &[u64]) -> Verdict {
         return Verdict::Unreadable;
     }
     let mut commands = [0u16; 2];
+    let mut stored = [0u16; 2];
     let given = capture::listed(&numbers[1..3], &mut commands);
+    let right = capture::listed(&numbers[7..9], &mut stored);
     if !given.is_readable {
+        return Verdict::Unreadable;
+    }
+    if !right.is_readable {
         return Verdict::Unreadable;
     }
     let sequence = DshotCommandSequence {
@@ -122,7 +127,7 @@ pub(crate) fn step(numbers: &[u64]) -> Verdict {
     if !is_command(value, numbers[5], numbers[6]) {
         return Verdict::Differs;
     }
-    judge(is_run(next.sequence, commands, numbers[7], numbers[8]))
+    judge(is_run(next.sequence, stored, numbers[9], numbers[10]))
 }
 
 // 19 STARTED DURATION NOW EXPIRED

@@ -1,8 +1,9 @@
 // Replays stored answers of the calls of dshot_reply and dshot: makes each call again, and reports the records whose answer differs.
 //
-// The list of records comes on standard input, as text of at most 65535 bytes. A line holds one record or none. A record is unsigned decimal
+// The list of records comes on standard input, as text of at most 131071 bytes. A line holds one record or none. A record is unsigned decimal
 // numbers with spaces between them, and its first number is the kind of call; `records.rt` says where each kind is. `#` starts a comment,
-// up to the end of its line. A record that cannot be read ends the run.
+// up to the end of its line. A record that cannot be read ends the run. The stored list has records that are wrong on purpose, at least one for
+// each number that is compared, so that a comparison that is left out shows in what is printed.
 
 mod answers;
 mod capture;
@@ -21,6 +22,10 @@ use crate::verdict::Verdict;
 use case_text::numbers::find;
 use case_text::widths::one_more;
 use libc::STDIN_FILENO;
+ghost use mathlib.Core.Path.{_≡_};
+ghost use lib.ListN.{length};
+
+const MOST_BYTES: usize = 131072;
 
 // Replays the record of a line, if it has one; false where the run ends there.
 fn replay_line(
@@ -55,8 +60,15 @@ fn replay_list(text: &[u8]) {
     report::counts(&compared, &differing);
 }
 
+// Room for a list, and for one byte more: a list that fills it may be cut off.
+fn buffer() -> [u8; MOST_BYTES]
+    ensures { λ r. ⌜ 131072 ≡ length r ⌝ }
+{
+    [0; MOST_BYTES]
+}
+
 fn main() {
-    let mut text = io::large_buffer();
+    let mut text = buffer();
     let n = io::read_full(STDIN_FILENO, &mut text);
     if n == text.len() {
         report::too_long();
