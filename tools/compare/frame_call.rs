@@ -10,7 +10,7 @@ pub type Buffer = [u16; ROOM];
 
 /// The numbers are as wide as the library takes them. A timing is its four slots, and so is a run
 /// of commands. Of a lane `usize::MAX` is none.
-#[derive(Clone, Copy)]
+#[derive(Clone, Copy, Debug)]
 pub enum Call {
     FromValue(u32, u32),
     Bidirectional(u32, u32),

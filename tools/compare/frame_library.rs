@@ -3,10 +3,13 @@
 
 use crate::exports::*;
 use crate::frame_call::{Buffer, Call, Left};
+use crate::spoil::{self, FRAMES};
 
 pub fn answer(call: &Call, lengths: &[usize]) -> Left {
     let mut left = call.before();
     left.returned = returned(call, &mut left.buffers, lengths);
+    let slots = left.buffers.as_flattened_mut();
+    spoil::pass(FRAMES, &mut left.returned, slots);
     left
 }
 

@@ -3,16 +3,19 @@
 
 use crate::answer::{Answer, UNTOUCHED};
 use crate::exports::*;
+use crate::spoil::{self, SAMPLED_WITH_EDT};
 
 /// The slots that a word, a value and a reading take.
 pub const WORD: usize = 2;
 pub const VALUE: usize = 1;
 pub const READING: usize = 3;
 
-fn lent(slots: usize, call: impl FnOnce(*mut u16) -> u32) -> Answer {
+/// The kind is that of the stored list.
+fn lent(kind: usize, slots: usize, call: impl FnOnce(*mut u16) -> u32) -> Answer {
     let mut answer = Answer::refused(0);
     assert!(slots <= answer.slots.len());
     answer.refusal = call(answer.slots.as_mut_ptr());
+    spoil::pass(kind, &mut answer.refusal, &mut answer.slots);
     answer
 }
 
@@ -25,37 +28,40 @@ fn address(samples: &[u16]) -> *const u16 {
 }
 
 pub fn reply_transitions_for(value: u32) -> u32 {
-    unsafe { kuzhenga_reply_transitions_for(value) }
+    let mut word = unsafe { kuzhenga_reply_transitions_for(value) };
+    spoil::pass(1, &mut word, &mut []);
+    word
 }
 
 pub fn reply_transitions(samples: &[u16], mask: u32, slots: usize) -> Answer {
     let (from, n) = (address(samples), samples.len());
-    lent(slots, |word| unsafe {
+    lent(4, slots, |word| unsafe {
         kuzhenga_reply_transitions(from, n, mask, word, slots)
     })
 }
 
 pub fn decode_gcr(word: u32, slots: usize) -> Answer {
-    lent(slots, |value| unsafe {
+    lent(2, slots, |value| unsafe {
         kuzhenga_decode_gcr(word, value, slots)
     })
 }
 
 pub fn reply_from_value(value: u32, edt: u32, slots: usize) -> Answer {
-    lent(slots, |reading| unsafe {
+    lent(3, slots, |reading| unsafe {
         kuzhenga_reply_from_value(value, edt, reading, slots)
     })
 }
 
 pub fn decode_sampled_reply(samples: &[u16], mask: u32, edt: u32, slots: usize) -> Answer {
     let (from, n) = (address(samples), samples.len());
-    lent(slots, |reading| unsafe {
+    let kind = if edt == 0 { 5 } else { SAMPLED_WITH_EDT };
+    lent(kind, slots, |reading| unsafe {
         kuzhenga_decode_sampled_reply(from, n, mask, edt, reading, slots)
     })
 }
 
 pub fn period_value(period: u32, slots: usize) -> Answer {
-    lent(slots, |value| unsafe {
+    lent(6, slots, |value| unsafe {
         kuzhenga_period_value(period, value, slots)
     })
 }
@@ -67,7 +73,8 @@ pub fn simulate_reply(length: usize, value: u32, lead: usize, mask: u32) -> (u32
         0 => std::ptr::null_mut(),
         _ => buffer.as_mut_ptr(),
     };
-    let refusal = unsafe { kuzhenga_simulate_reply(to, length, value, lead, mask) };
+    let mut refusal = unsafe { kuzhenga_simulate_reply(to, length, value, lead, mask) };
+    spoil::pass(7, &mut refusal, &mut buffer);
     (refusal, buffer)
 }
 

@@ -1,5 +1,6 @@
 //! Compares the library, through its archive, with the source it is ported from, part by part. The
-//! one argument is how many random captures part 8 takes. Exit status 1 if anything differs.
+//! one argument is how many random captures part 8 takes. Exit status 1 if anything differs. Or the
+//! argument is --seen-to-fail: exit status 1 if a wrong answer is not seen.
 
 mod answer;
 mod capture_check;
@@ -30,8 +31,10 @@ mod random_captures;
 mod random_parts;
 mod records;
 mod rendering;
+mod seen;
 mod sequence_parts;
 mod slot_parts;
+mod spoil;
 mod tally;
 mod threads;
 mod timings;
@@ -41,11 +44,18 @@ use std::process::ExitCode;
 use tally::Tally;
 
 fn main() -> ExitCode {
-    let count = std::env::args().nth(1).and_then(|word| word.parse().ok());
-    let Some(count) = count else {
-        eprintln!("the argument is the number of random captures");
-        return ExitCode::from(2);
-    };
+    let word = std::env::args().nth(1).unwrap_or_default();
+    match word.parse() {
+        Ok(count) => compared(count),
+        Err(_) if word == "--seen-to-fail" => ExitCode::from(u8::from(seen::unseen(1000) > 0)),
+        Err(_) => {
+            eprintln!("the argument is the number of random captures, or --seen-to-fail");
+            ExitCode::from(2)
+        }
+    }
+}
+
+fn compared(count: u64) -> ExitCode {
     let (mut compared, mut differ) = (0, 0);
     let mut report = |found: Tally| {
         found.report();

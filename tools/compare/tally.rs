@@ -7,7 +7,7 @@ const SHOWN: usize = 3;
 const NUMBERS: usize = 18;
 
 pub struct Tally {
-    name: &'static str,
+    pub name: &'static str,
     pub compared: u64,
     pub differ: u64,
     /// How often each answer was the right one: a part that only meets refusals would show little.

@@ -4,16 +4,19 @@ use crate::call::NAMES;
 use crate::cover_calls::CALLS;
 use crate::cover_counts::COUNTS;
 use crate::cover_interrupts::INTERRUPTS;
+use crate::cover_numbers::NUMBERS;
 use crate::cover_services::SERVICES;
 use crate::outcome::replies;
 use crate::step::Step;
-use crate::write_call::code;
+use crate::words::{self, Word};
+use crate::write_call::{code, joined};
+use std::collections::BTreeMap;
 
 /// A case, and whether a call is one of it.
 pub type Case = (&'static str, fn(&Step) -> bool);
 
 /// The groups of cases under their titles.
-const GROUPS: [(&str, &[Case]); 4] = [
+const GROUPS: [(&str, &[Case]); 5] = [
     (
         "demands, requests, looks, views, writes and releases",
         CALLS,
@@ -21,6 +24,7 @@ const GROUPS: [(&str, &[Case]); 4] = [
     ("services", SERVICES),
     ("interrupts", INTERRUPTS),
     ("counts that wrap, or stop at their largest value", COUNTS),
+    ("numbers at their places", NUMBERS),
 ];
 
 /// What a lane's reply can be: the source reads with EDT off.
@@ -40,6 +44,7 @@ pub struct Coverage {
     calls: [u64; NAMES.len()],
     cases: Vec<Vec<u64>>,
     replies: [u64; REPLIES.len()],
+    words: BTreeMap<Word, u64>,
 }
 
 impl Coverage {
@@ -51,6 +56,7 @@ impl Coverage {
                 .map(|(_, cases)| vec![0; cases.len()])
                 .collect(),
             replies: [0; REPLIES.len()],
+            words: words::all().into_iter().map(|word| (word, 0)).collect(),
         }
     }
 
@@ -63,6 +69,9 @@ impl Coverage {
         }
         if step.decoded() {
             self.count_replies(step);
+        }
+        for word in words::told(step) {
+            self.words.entry(word).and_modify(|count| *count += 1);
         }
     }
 
@@ -91,31 +100,47 @@ impl Coverage {
             add(sums, more);
         }
         add(&mut self.replies, &other.replies);
+        for (word, more) in other.words {
+            self.words.entry(word).and_modify(|count| *count += more);
+        }
     }
 
     /// The groups, and under each title its cases with their counts.
-    fn groups(&self) -> Vec<(&'static str, Vec<(&'static str, u64)>)> {
-        let calls = NAMES.into_iter().zip(self.calls).collect();
-        let mut groups = vec![("calls", calls)];
+    fn groups(&self) -> Vec<(&'static str, Vec<(String, u64)>)> {
+        let named = |name: &str, count: &u64| (name.to_string(), *count);
+        let list = |names: &[&str], counts: &[u64]| -> Vec<_> {
+            let both = names.iter().zip(counts);
+            both.map(|(name, count)| named(name, count)).collect()
+        };
+        let mut groups = vec![("calls", list(&NAMES, &self.calls))];
         for ((title, cases), counts) in GROUPS.iter().zip(&self.cases) {
-            let names = cases.iter().map(|(name, _)| *name);
-            groups.push((title, names.zip(counts.iter().copied()).collect()));
+            let names: Vec<&str> = cases.iter().map(|(name, _)| *name).collect();
+            groups.push((title, list(&names, counts)));
         }
-        let replies = REPLIES.into_iter().zip(self.replies).collect();
-        groups.push(("replies stored", replies));
+        groups.push(("replies stored", list(&REPLIES, &self.replies)));
+        let word = |((name, numbers), count): (&Word, &u64)| {
+            named(&format!("{name} {}", joined(numbers)), count)
+        };
+        groups.push(("words", self.words.iter().map(word).collect()));
         groups
+    }
+
+    /// The cases that no call was one of.
+    pub fn at_zero(&self) -> Vec<String> {
+        let cases = self.groups().into_iter().flat_map(|(_, counts)| counts);
+        let missed = cases.filter(|(_, count)| *count == 0);
+        missed.map(|(name, _)| name).collect()
     }
 
     /// Prints the counts, and answers how many are 0.
     pub fn report(&self) -> u64 {
-        let mut at_zero = 0;
         for (title, counts) in self.groups() {
             println!("{title}:");
             for (name, count) in counts {
                 println!("    {count:>9}  {name}");
-                at_zero += u64::from(count == 0);
             }
         }
+        let at_zero = self.at_zero().len() as u64;
         println!("cases at zero: {at_zero}");
         at_zero
     }

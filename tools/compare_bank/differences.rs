@@ -8,7 +8,7 @@ use std::path::Path;
 use std::{fs, io};
 
 /// The parts of a line, which are compared one by one.
-const PARTS: [&str; 4] = ["answer", "orders", "fields", "slots"];
+pub const PARTS: [&str; 4] = ["answer", "orders", "fields", "slots"];
 
 #[derive(Default)]
 pub struct Differences {
@@ -54,6 +54,10 @@ impl Differences {
         if kept.is_none_or(|kept| difference.list < kept.list) {
             self.first.insert(kind, difference);
         }
+    }
+
+    pub fn kinds(&self) -> Vec<&str> {
+        self.first.keys().map(String::as_str).collect()
     }
 
     /// Takes in what another thread has found.

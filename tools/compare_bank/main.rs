@@ -37,6 +37,7 @@ mod compare;
 mod cover_calls;
 mod cover_counts;
 mod cover_interrupts;
+mod cover_numbers;
 mod cover_services;
 mod coverage;
 mod differences;
@@ -57,11 +58,14 @@ mod scenes_frames;
 mod scenes_refusals;
 mod scenes_replies;
 mod scenes_runs;
+mod scenes_words;
 mod script;
+mod seen;
 mod settings;
 mod step;
 mod stored_list;
 mod windows;
+mod words;
 mod write_call;
 
 use std::path::Path;
@@ -76,6 +80,7 @@ fn main() -> ExitCode {
             ExitCode::SUCCESS
         }
         ["--answers"] => answers::answers(),
+        ["--seen-to-fail"] => ExitCode::from(u8::from(seen::unseen() > 0)),
         [program, calls, folder] => match calls.parse() {
             Ok(calls) => compared(Path::new(program), calls, Path::new(folder)),
             Err(_) => usage(),
@@ -85,7 +90,10 @@ fn main() -> ExitCode {
 }
 
 fn usage() -> ExitCode {
-    eprintln!("the arguments are --list, --answers, or a program, a number of calls and a folder");
+    eprintln!(
+        "the arguments are --list, --answers, --seen-to-fail, or a program, a number of calls"
+    );
+    eprintln!("and a folder");
     ExitCode::from(2)
 }
 

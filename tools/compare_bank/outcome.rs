@@ -58,7 +58,7 @@ fn field_numbers(fields: &Fields) -> Vec<u64> {
     numbers
 }
 
-fn timing(timing: DshotTiming) -> [u64; 4] {
+pub fn timing(timing: DshotTiming) -> [u64; 4] {
     [
         timing.arr,
         timing.zero_high,

@@ -3,7 +3,6 @@
 use crate::coverage::Coverage;
 use crate::maker::Maker;
 use crate::record::Record;
-use crate::step::Step;
 
 /// A list's text has fewer bytes than this, so no call is added above the second number: a line is
 /// shorter than the difference.
@@ -17,14 +16,8 @@ pub fn list(number: u64, seen: &mut Coverage) -> Record {
         if record.bytes > FULL {
             break;
         }
-        let before = record.bank.fields();
-        let call = maker.next(&before);
-        let outcome = record.call(&call);
-        seen.count(&Step {
-            call: &call,
-            before: &before,
-            outcome: &outcome,
-        });
+        let call = maker.next(&record.bank.fields());
+        record.counted(&call, seen);
     }
     assert!(record.bytes < LONGEST);
     record

@@ -2,7 +2,9 @@
 
 use crate::bank::Bank;
 use crate::call::Call;
+use crate::coverage::Coverage;
 use crate::outcome::Outcome;
+use crate::step::Step;
 use crate::{read_call, write_call};
 
 pub struct Record {
@@ -24,7 +26,7 @@ impl Record {
         }
     }
 
-    pub fn call(&mut self, call: &Call) -> Outcome {
+    fn call(&mut self, call: &Call) -> Outcome {
         let line = write_call::line(call);
         // The call that is made is the one that the line says.
         assert_eq!(read_call::call(&line).as_ref(), Some(call));
@@ -32,6 +34,18 @@ impl Record {
         self.right.push(outcome.line(write_call::code(call)));
         self.bytes += line.len() + 1;
         self.calls.push(line);
+        outcome
+    }
+
+    /// The same, and counts the cases that the call is one of.
+    pub fn counted(&mut self, call: &Call, seen: &mut Coverage) -> Outcome {
+        let before = self.bank.fields();
+        let outcome = self.call(call);
+        seen.count(&Step {
+            call,
+            before: &before,
+            outcome: &outcome,
+        });
         outcome
     }
 

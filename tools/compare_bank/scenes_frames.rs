@@ -55,7 +55,7 @@ fn expired(script: &mut Script) {
     script.service(107, BUSY);
     script.throttles([300, 0, 0, 0], 107, 0);
     script.service(108, FAULTED);
-    assert_eq!(script.0.bank.fields().stats.lease_expiries, 3);
+    assert_eq!(script.record.bank.fields().stats.lease_expiries, 3);
 }
 
 /// Turned bidirectional in the middle of a frame, which then has a window. An interrupt too many is
@@ -67,7 +67,7 @@ fn turned_late(script: &mut Script) {
     script.expect(0, Call::EnableBidirectional(true));
     script.complete(&[2, 3]);
     script.complete(&[3, 0, 1, 2]);
-    assert!(script.0.bank.fields().replies_waiting);
+    assert!(script.record.bank.fields().replies_waiting);
     script.interrupt(0, Status::DONE, SPURIOUS);
     script.service(2, FAULTED);
 }
@@ -92,6 +92,7 @@ fn releases(script: &mut Script) {
     script.service(102, STARTED);
     script.release(true, 102, 100);
     script.release(true, 103, 100);
+    script.release(false, 65537, 65536);
     script.release(false, 0, u32::MAX);
     script.release(true, 1, u32::MAX);
 }

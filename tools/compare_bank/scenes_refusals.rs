@@ -39,9 +39,9 @@ fn wide_lane(script: &mut Script, lane: u64) {
 fn lanes(script: &mut Script) {
     script.unidirectional();
     wide_lane(script, 4);
+    wide_lane(script, 255);
     wide_lane(script, 256);
     wide_lane(script, 1 << 32);
-    script.request(12, 255);
     script.request(12, u64::MAX);
 }
 

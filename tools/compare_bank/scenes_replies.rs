@@ -9,8 +9,10 @@ use crate::windows::{Window, WINDOW};
 
 pub fn scenes(script: &mut Script) {
     refusals(script);
+    each_lane(script);
     kept_over_a_fault(script);
     full_counts(script);
+    other_full_counts(script);
 }
 
 /// The refusals that the lanes' replies are counted under.
@@ -20,26 +22,25 @@ fn expect_refusals(script: &mut Script, now: u64, windows: [Window; 4], right: [
     assert_eq!([1, 4, 7, 10].map(|place| stored[place]), right);
 }
 
+/// A capture for each refusal from 7 to 10. Of 0x123's damaged words one has a symbol that is none,
+/// and one a wrong checksum.
+fn refused() -> [Window; 4] {
+    let bad = |refusal: u32| {
+        let mut words = damaged(reply_transitions_for(0x123));
+        let word = words.find(|word| decode_gcr(*word).refusal == refusal);
+        Window::word(word.expect("there is such damage"), 5, 2)
+    };
+    let missing = Window::of(&[true; WINDOW], 2);
+    [missing, Window::bits(23, 2), bad(9), bad(10)]
+}
+
 /// Each refusal of a reply; replies that nobody takes make room for the next; and an edge that is
 /// one bit late, so that another value is read, after a bad reply.
 fn refusals(script: &mut Script) {
-    let word = reply_transitions_for(0x123);
-    // Of 0x123's first damaged words one has a symbol that is none, and one a wrong checksum.
-    let damaged: Vec<u32> = damaged(word).collect();
-    let bad = |refusal: u32| {
-        let is_bad = |word: &&u32| decode_gcr(**word).refusal == refusal;
-        *damaged.iter().find(is_bad).expect("there is such damage")
-    };
     script.bidirectional();
     script.service(1, STARTED);
     script.cycle();
-    let windows = [
-        Window::of(&[true; WINDOW], 2),
-        Window::bits(23, 2),
-        Window::word(bad(9), 5, 2),
-        Window::word(bad(10), 5, 2),
-    ];
-    expect_refusals(script, 2, windows, [7, 8, 9, 10]);
+    expect_refusals(script, 2, refused(), [7, 8, 9, 10]);
     script.cycle();
     let windows = [
         Window::reply(0, 20, 2),
@@ -53,6 +54,24 @@ fn refusals(script: &mut Script) {
     expect_refusals(script, 3, windows, [11, 0, 7, 7]);
     script.expect(1, Call::TakeReplies);
     script.call(Call::ReplyStats);
+}
+
+/// Each lane gets each reply once: each refusal, a speed, and the acknowledgement.
+fn each_lane(script: &mut Script) {
+    let taken = [0, 0x123, 0xe00].map(|value| Window::reply(value, 20, 2));
+    let replies = [&refused()[..], &taken].concat();
+    script.bidirectional();
+    script.service(0, STARTED);
+    for first in 0..replies.len() {
+        let of_lane = |lane: usize| replies[(first + lane) % replies.len()].clone();
+        let windows = [0, 1, 2, 3].map(of_lane);
+        script.cycle();
+        let now = first as u64 + 1;
+        script.served(Service::at(now).with_windows(&windows), STARTED);
+    }
+    // The replies stay where they are, beside other counts.
+    script.call(Call::SetReplyStats([7; 12]));
+    script.expect(1, Call::TakeReplies);
 }
 
 /// Replies that were read before an exchange is refused can still be taken.
@@ -93,5 +112,19 @@ fn full_counts(script: &mut Script) {
     script.unidirectional();
     script.call(Call::SetStats([u32::MAX; 11]));
     script.interrupt(0, Status::DONE, SPURIOUS);
-    assert_eq!(script.0.bank.fields().stats.spurious_interrupts, 0);
+    assert_eq!(script.record.bank.fields().stats.spurious_interrupts, 0);
+}
+
+/// The same counts of replies, each of the other kind.
+fn other_full_counts(script: &mut Script) {
+    script.bidirectional();
+    script.call(Call::SetReplyStats([u32::MAX; 12]));
+    script.service(5, STARTED);
+    script.cycle();
+    let good = Window::reply(0x123, 10, 1);
+    let absent = good.clone().absent();
+    let windows = [absent.clone(), good.clone(), absent, good];
+    let outcome = script.served(Service::at(6).with_windows(&windows), STARTED);
+    let counts = outcome.fields.reply_stats;
+    assert_eq!(counts.consecutive_invalid, [u32::MAX, 0, u32::MAX, 0]);
 }

@@ -62,7 +62,7 @@ fn spent(script: &mut Script) {
     script.pending(true);
     script.service(21, STARTED);
     script.pending(false);
-    let sent = script.0.bank.fields().telemetry_request_sent;
+    let sent = script.record.bank.fields().telemetry_request_sent;
     assert_eq!(lane(sent), 2);
     script.service(22, BUSY);
     script.expect(0, Call::TakeTelemetryRequestSent);

@@ -2,6 +2,7 @@
 //! that no scene shows something else than it says.
 
 use crate::call::{Call, Run, Service, Status, SLOTS};
+use crate::coverage::Coverage;
 use crate::outcome::Outcome;
 use crate::record::Record;
 use crate::timings::dshot600;
@@ -24,16 +25,26 @@ pub const REVERSE: Run = Run {
     repeats_left: 10,
 };
 
-pub struct Script(pub Record);
+pub struct Script {
+    pub record: Record,
+    pub seen: Coverage,
+}
 
 impl Script {
+    pub fn new() -> Self {
+        Self {
+            record: Record::new(),
+            seen: Coverage::new(),
+        }
+    }
+
     pub fn call(&mut self, call: Call) -> Outcome {
-        self.0.call(&call)
+        self.record.counted(&call, &mut self.seen)
     }
 
     /// A call whose answer starts with this number: a refusal, or a flag, or a lane.
     pub fn expect(&mut self, number: u64, call: Call) {
-        let outcome = self.0.call(&call);
+        let outcome = self.call(call.clone());
         assert_eq!(outcome.answer[0], number, "{call:?}");
     }
 
@@ -95,7 +106,7 @@ impl Script {
     pub fn cycle(&mut self) {
         self.complete(&[0, 1, 2, 3]);
         self.complete(&[2, 0, 3, 1]);
-        assert!(self.0.bank.fields().replies_waiting);
+        assert!(self.record.bank.fields().replies_waiting);
     }
 
     pub fn view(&mut self, refusal: u64, motor: u64, lengths: [usize; 2]) {

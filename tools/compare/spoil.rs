@@ -1,0 +1,38 @@
+//! Wrong answers on purpose: where it is asked for, one number of what the library answers is changed
+//! before anybody compares it. So the comparison can be seen to fail.
+
+use std::sync::atomic::{AtomicUsize, Ordering};
+
+/// Calls by their kinds in the stored list, where a reading with EDT on and a call on frames have
+/// numbers of their own.
+pub const SAMPLED_WITH_EDT: usize = 24;
+pub const FRAMES: usize = 25;
+
+/// Calls of every kind.
+pub const ANY: usize = 26;
+
+/// The kind that is spoiled, 0 for none, and the place of the number: 0 for what the call returned,
+/// and then the slots.
+static KIND: AtomicUsize = AtomicUsize::new(0);
+static PLACE: AtomicUsize = AtomicUsize::new(0);
+
+pub fn spoil(kind: usize, place: usize) {
+    PLACE.store(place, Ordering::SeqCst);
+    KIND.store(kind, Ordering::SeqCst);
+}
+
+pub fn spoil_nothing() {
+    KIND.store(0, Ordering::SeqCst);
+}
+
+/// Every answer of the library goes through here.
+pub fn pass(kind: usize, returned: &mut u32, slots: &mut [u16]) {
+    let spoiled = KIND.load(Ordering::Relaxed);
+    if spoiled != ANY && spoiled != kind {
+        return;
+    }
+    match PLACE.load(Ordering::Relaxed) {
+        0 => *returned ^= 1,
+        place => slots[place - 1] ^= 1,
+    }
+}
