@@ -41,7 +41,7 @@ ghost use mathlib.Core.Bool.{true};
 ghost use Prim.Native.Nat.{_<_};
 ghost use lib.Dec.{ltb};
 ghost use lib.ListN.{length};
-ghost use Rattle.dshot_reply_spec.specs.Answer.{pick};
+ghost use Rattle.dshot_reply_spec.specs.Answer.{if_then_else_};
 ghost use Rattle.dshot_reply_spec.specs.Refusals.{wrongLength};
 ghost use Rattle.dshot_bank_spec.specs.Lanes.{any};
 ghost use Rattle.dshot_bank_spec.specs.State.{Buffers};
@@ -64,8 +64,8 @@ const STORED_NO_REPLY: u16 = REFUSED + NO_REPLY as u16;
 
 // A new bank of a timing: the first lent buffer is current, the second spare.
 pub fn from_lanes(timing: &[u16], bank: &mut [u16]) -> u32
-    ensures { λ r. ⌜ r ≡ pick (fit (now (bank .entry)) (sized 4 (now (timing .entry)))) 0 wrongLength ⌝ }
-    ensures { λ r. ⌜ now (bank .exit) ≡ pick (fit (now (bank .entry)) (sized 4 (now (timing .entry)))) (store (fromLanes 4 (timingAt (at (now (timing .entry)))))) (now (bank .entry)) ⌝ }
+    ensures { λ r. ⌜ r ≡ (if fit (now (bank .entry)) (sized 4 (now (timing .entry))) then 0 else wrongLength) ⌝ }
+    ensures { λ r. ⌜ now (bank .exit) ≡ (if fit (now (bank .entry)) (sized 4 (now (timing .entry))) then store (fromLanes 4 (timingAt (at (now (timing .entry))))) else now (bank .entry)) ⌝ }
 {
     if bank.len() != SLOTS {
         return WRONG_LENGTH;

@@ -34,7 +34,7 @@ ghost use mathlib.Core.Path.{_≡_};
 ghost use mathlib.Core.List.{[], _∷_};
 ghost use Prim.Native.Nat.{_+_, _<_};
 ghost use lib.ListN.{length};
-ghost use Rattle.dshot_reply_spec.specs.Answer.{pick, refused, if_then_else_};
+ghost use Rattle.dshot_reply_spec.specs.Answer.{refused, if_then_else_};
 ghost use Rattle.dshot_reply_spec.specs.Refusals.{noReply, wrongLength};
 ghost use Rattle.dshot_reply.specs.Answers.{replyAnswer};
 ghost use Rattle.dshot_bank_spec.specs.State.{Buffers};
@@ -53,8 +53,8 @@ ghost use Rattle.bank_slots_spec.specs.Parts.{slotRows};
 // The flag in a slot of the bank, told in one slot: 0 or 1.
 fn look_flag(bank: &[u16], k: usize, out: &mut [u16]) -> u32
     requires { ⌜ k < slots ⌝ }
-    ensures { λ r. ⌜ r ≡ pick (fit (now (bank .entry)) (sized 1 (now (out .entry)))) 0 wrongLength ⌝ }
-    ensures { λ r. ⌜ now (out .exit) ≡ pick (fit (now (bank .entry)) (sized 1 (now (out .entry)))) (Store.bit (Load.flag (at (now (bank .entry)) k)) ∷ []) (now (out .entry)) ⌝ }
+    ensures { λ r. ⌜ r ≡ (if fit (now (bank .entry)) (sized 1 (now (out .entry))) then 0 else wrongLength) ⌝ }
+    ensures { λ r. ⌜ now (out .exit) ≡ (if fit (now (bank .entry)) (sized 1 (now (out .entry))) then Store.bit (Load.flag (at (now (bank .entry)) k)) ∷ [] else now (out .entry)) ⌝ }
 {
     if bank.len() != SLOTS {
         return WRONG_LENGTH;

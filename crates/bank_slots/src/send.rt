@@ -49,7 +49,7 @@ ghost use mathlib.Core.List.{[], _∷_, _++_};
 ghost use mathlib.Core.Option.{none};
 ghost use Prim.Native.Nat.{_+_, _*_, _<_};
 ghost use lib.ListN.{length, set, replicate};
-ghost use Rattle.dshot_reply_spec.specs.Answer.{pick};
+ghost use Rattle.dshot_reply_spec.specs.Answer.{if_then_else_};
 ghost use Rattle.dshot.specs.Answers.{kindOf, laneOf, timingOf};
 ghost use Rattle.dshot_bank_spec.specs.Lanes.{position};
 ghost use Rattle.dshot_bank_spec.specs.State.{Core, Bank, Buffers};
@@ -241,7 +241,7 @@ fn lanes_taken(lanes: &[u16]) -> usize
 
 fn turn_mark(state: &mut [u16], k: usize, turned: bool)
     requires { ⌜ k < length (now state) ⌝ }
-    ensures { λ r. ⌜ now (state .exit) ≡ pick turned (write ((k holds Store.bit (not (Load.flag (at (now (state .entry)) k)))) ∷ []) (now (state .entry))) (now (state .entry)) ⌝ }
+    ensures { λ r. ⌜ now (state .exit) ≡ (if turned then write ((k holds Store.bit (not (Load.flag (at (now (state .entry)) k)))) ∷ []) (now (state .entry)) else now (state .entry)) ⌝ }
 {
     if turned {
         let mark = flag(state[k]);
@@ -376,7 +376,7 @@ pub(crate) fn tell(out: &mut [u16], event: u16, count: u16, codes: [u16; 9], dut
 }
 
 fn sent_event(lease_expired: bool) -> u16
-    ensures { λ r. ⌜ r ≡ pick «lease_expired» 2 0 ⌝ }
+    ensures { λ r. ⌜ r ≡ (if «lease_expired» then 2 else 0) ⌝ }
 {
     if lease_expired {
         LEASE_EXPIRED

@@ -21,7 +21,7 @@ ghost use mathlib.Core.Path.{_≡_};
 ghost use mathlib.Core.Option.{none};
 ghost use Prim.Native.Nat.{_+_, _<_};
 ghost use lib.ListN.{length};
-ghost use Rattle.dshot_reply_spec.specs.Answer.{pick};
+ghost use Rattle.dshot_reply_spec.specs.Answer.{if_then_else_};
 ghost use Rattle.dshot.specs.Answers.{runOf};
 ghost use Rattle.dshot_bank_spec.specs.Commands.{commandStop, clearRequestSent, cancelTelemetryRequest};
 ghost use Rattle.dshot_bank_spec.specs.With.{withCommandSequence};
@@ -100,7 +100,7 @@ pub(crate) fn stop(state: &mut [u16])
 
 pub(crate) fn bump_if(state: &mut [u16], counted: bool, k: usize)
     requires { ⌜ k + 1 < length (now state) ⌝ }
-    ensures { λ r. ⌜ now (state .exit) ≡ pick counted (bumped k (now (state .entry))) (now (state .entry)) ⌝ }
+    ensures { λ r. ⌜ now (state .exit) ≡ (if counted then bumped k (now (state .entry)) else now (state .entry)) ⌝ }
 {
     if counted {
         bump(state, k);

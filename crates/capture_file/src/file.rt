@@ -7,7 +7,7 @@ ghost use mathlib.Core.Path.{_≡_};
 ghost use mathlib.Core.Bool.{true};
 ghost use Prim.Native.Nat.{_+_, _≤_};
 ghost use lib.ListN.{length, drop};
-ghost use Rattle.dshot_reply_spec.specs.Answer.{andThen, pick, isGiven, filled};
+ghost use Rattle.dshot_reply_spec.specs.Answer.{andThen, isGiven, filled, if_then_else_};
 ghost use Rattle.capture_file.specs.Groups.{readAll};
 ghost use Rattle.capture_file.specs.File.{allGroups, capture, readHead, front, slotsOf, readInto, writtenInto, told, byteCount};
 ghost use Rattle.capture_file.specs.FileAnswers.{readAnswer, writtenAnswer};
@@ -177,7 +177,7 @@ pub enum CaptureWritten {
 }
 
 fn flag(set: bool) -> u16
-    ensures { λ r. ⌜ r ≡ pick set 1 0 ⌝ }
+    ensures { λ r. ⌜ r ≡ (if set then 1 else 0) ⌝ }
 {
     if set { 1 } else { 0 }
 }

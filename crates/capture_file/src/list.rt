@@ -6,6 +6,8 @@ use crate::file::read_capture;
 use crate::line::Line;
 use crate::line::line_of;
 use crate::line::refused_line;
+use dshot_reply::refusals::NOT_A_CAPTURE;
+use dshot_reply::refusals::WRONG_LENGTH;
 ghost use mathlib.Core.Path.{_≡_};
 ghost use Rattle.capture_file.specs.Line.{padded};
 ghost use Rattle.capture_file.specs.Listing.{fileLine};
@@ -21,7 +23,7 @@ pub fn file_line(file: &[u8]) -> Line
             mask,
             extended_telemetry,
         } => line_of(&samples[0..count], mask, extended_telemetry),
-        CaptureRead::NotACapture => refused_line(17),
-        CaptureRead::WrongLength => refused_line(13),
+        CaptureRead::NotACapture => refused_line(NOT_A_CAPTURE),
+        CaptureRead::WrongLength => refused_line(WRONG_LENGTH),
     }
 }

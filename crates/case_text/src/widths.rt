@@ -2,7 +2,7 @@
 
 ghost use mathlib.Core.Path.{_≡_};
 ghost use Prim.Native.Nat.{_+_, min};
-ghost use Rattle.dshot_reply_spec.specs.Answer.{pick};
+ghost use Rattle.dshot_reply_spec.specs.Answer.{if_then_else_};
 
 pub fn wide8(x: u8) -> u64
     ensures { λ r. ⌜ r ≡ x ⌝ }
@@ -23,7 +23,7 @@ pub fn wide32(x: u32) -> u64
 }
 
 pub fn flag(x: bool) -> u64
-    ensures { λ r. ⌜ r ≡ pick x 1 0 ⌝ }
+    ensures { λ r. ⌜ r ≡ (if x then 1 else 0) ⌝ }
 {
     if x { 1 } else { 0 }
 }

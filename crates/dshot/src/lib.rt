@@ -16,7 +16,7 @@ use dshot_reply::refusals::ZERO_TIMER_CLOCK;
 ghost use mathlib.Core.Path.{_≡_};
 ghost use Prim.Native.Nat.{_+_, _-_, _%_, _≤_, _<_, min};
 ghost use lib.Dec.{ltb};
-ghost use Rattle.dshot_reply_spec.specs.Answer.{refusalNumber, filled, pick};
+ghost use Rattle.dshot_reply_spec.specs.Answer.{refusalNumber, filled, if_then_else_};
 ghost use Rattle.dshot_reply_spec.specs.Nearest.{nearest};
 ghost use Rattle.dshot_spec.specs.Packet.{plain, inverted, packetWord, tryPacket, checksum, asks, motorPackets};
 ghost use Rattle.dshot_spec.specs.Timing.{fromClocks, dutyForBit};
@@ -290,7 +290,7 @@ fn bit_is_set(packet: DshotPacket, bit_number: usize) -> bool
 }
 
 fn chosen(set: bool, one: u16, zero: u16) -> u16
-    ensures { λ r. ⌜ r ≡ pick set «one» «zero» ⌝ }
+    ensures { λ r. ⌜ r ≡ (if set then «one» else «zero») ⌝ }
 {
     if set { one } else { zero }
 }
@@ -298,7 +298,7 @@ fn chosen(set: bool, one: u16, zero: u16) -> u16
 // Slot `index` of the lowest `bits` bits of a packet: the duty of a bit, the highest first, and zero after the last.
 fn duty_slot(packet: DshotPacket, bits: usize, zero: u16, one: u16, index: usize) -> u16
     requires { ⌜ bits ≤ 16 ⌝ }
-    ensures { λ r. ⌜ r ≡ pick (ltb index bits) (pick (isSet (packet .0) (bits - 1 - index)) one zero) 0 ⌝ }
+    ensures { λ r. ⌜ r ≡ (if ltb index bits then (if isSet (packet .0) (bits - 1 - index) then one else zero) else 0) ⌝ }
 {
     if index < bits {
         return chosen(bit_is_set(packet, bits - 1 - index), one, zero);

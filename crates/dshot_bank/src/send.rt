@@ -33,7 +33,7 @@ ghost use mathlib.Core.Path.{_≡_};
 ghost use mathlib.Core.Bool.{not};
 ghost use Prim.Native.Nat.{_*_, _<_};
 ghost use lib.ListN.{length, set, replicate};
-ghost use Rattle.dshot_reply_spec.specs.Answer.{pick};
+ghost use Rattle.dshot_reply_spec.specs.Answer.{if_then_else_};
 ghost use Rattle.dshot_reply_spec.specs.Refusals.{wrongLength};
 ghost use Rattle.dshot_spec.specs.Sequence.{sequenceOf};
 ghost use Rattle.dshot.specs.Answers.{kindOf, laneOf, words, timingOf, commandOf, runOf};
@@ -84,7 +84,7 @@ pub(crate) struct Sent {
 // ---- a fault
 
 fn add_if(counted: bool, count: u32) -> u32
-    ensures { λ r. ⌜ r ≡ pick counted (wrappingAdd count) count ⌝ }
+    ensures { λ r. ⌜ r ≡ (if counted then wrappingAdd count else count) ⌝ }
 {
     if counted { wrapping_add(count) } else { count }
 }
@@ -319,9 +319,9 @@ pub fn encode_spares(
     packets: MotorPackets,
     timing: DshotTiming,
 ) -> Spares
-    ensures { λ r. ⌜ r .refusal ≡ pick (slotsFit 4 (length (now (first .entry))) (length (now (second .entry)))) 0 wrongLength ⌝ }
-    ensures { λ r. ⌜ r .«first_duties» ≡ pick (slotsFit 4 (length (now (first .entry))) (length (now (second .entry)))) (firstDuties 4 (timingOf timing) (words packets)) (replicate 4 0) ⌝ }
-    ensures { λ r. ⌜ _≡_ {A = Buffers} (record { first = now (first .exit); second = now (second .exit) }) (pick (slotsFit 4 (length (now (first .entry))) (length (now (second .entry)))) (encodeLanes 4 (timingOf timing) «in_second» (words packets) (record { first = now (first .entry); second = now (second .entry) })) (record { first = now (first .entry); second = now (second .entry) })) ⌝ }
+    ensures { λ r. ⌜ r .refusal ≡ (if slotsFit 4 (length (now (first .entry))) (length (now (second .entry))) then 0 else wrongLength) ⌝ }
+    ensures { λ r. ⌜ r .«first_duties» ≡ (if slotsFit 4 (length (now (first .entry))) (length (now (second .entry))) then firstDuties 4 (timingOf timing) (words packets) else replicate 4 0) ⌝ }
+    ensures { λ r. ⌜ _≡_ {A = Buffers} (record { first = now (first .exit); second = now (second .exit) }) (if slotsFit 4 (length (now (first .entry))) (length (now (second .entry))) then encodeLanes 4 (timingOf timing) «in_second» (words packets) (record { first = now (first .entry); second = now (second .entry) }) else record { first = now (first .entry); second = now (second .entry) }) ⌝ }
 {
     if !buffers_fit(first.len(), second.len()) {
         return Spares {
@@ -351,7 +351,7 @@ fn lanes_taken(taken: LaneFlags) -> usize
 }
 
 fn turned_if(turned: bool, mark: bool) -> bool
-    ensures { λ r. ⌜ r ≡ pick turned (not mark) mark ⌝ }
+    ensures { λ r. ⌜ r ≡ (if turned then not mark else mark) ⌝ }
 {
     if turned { !mark } else { mark }
 }

@@ -9,22 +9,32 @@ use dshot_bank::commands::Special;
 use dshot_bank::commands::Throttle;
 use dshot_bank::looks::View;
 
-pub const NO_SUCH_MOTOR: u64 = 12;
+pub const NO_SUCH_MOTOR: u64 = dshot_reply::refusals::NO_SUCH_MOTOR as u64;
 
-pub const WRONG_LENGTH: u64 = 13;
+pub const WRONG_LENGTH: u64 = dshot_reply::refusals::WRONG_LENGTH as u64;
 
-const FAULTED: u64 = 18;
+const THROTTLE_OUT_OF_RANGE: u64 = dshot_reply::refusals::THROTTLE_OUT_OF_RANGE as u64;
+
+const FAULTED: u64 = dshot_reply::refusals::BANK_FAULTED as u64;
+
+const MOTORS_RUNNING: u64 = dshot_reply::refusals::MOTORS_RUNNING as u64;
+
+const COMMAND_PENDING: u64 = dshot_reply::refusals::COMMAND_PENDING as u64;
+
+const TELEMETRY_PENDING: u64 = dshot_reply::refusals::TELEMETRY_PENDING as u64;
+
+const REPLIES_UNSUPPORTED: u64 = dshot_reply::refusals::REPLIES_UNSUPPORTED as u64;
 
 pub(crate) fn of_enable(answer: Enable) -> u64 {
     match answer {
         Enable::Ok => 0,
-        Enable::Refused(_) => 22,
+        Enable::Refused(_) => REPLIES_UNSUPPORTED,
     }
 }
 
 fn of_command(error: DshotCommandError) -> u64 {
     match error {
-        DshotCommandError::ThrottleOutOfRange => 6,
+        DshotCommandError::ThrottleOutOfRange => THROTTLE_OUT_OF_RANGE,
         DshotCommandError::Faulted => FAULTED,
     }
 }
@@ -39,8 +49,8 @@ pub(crate) fn of_throttle(answer: Throttle) -> u64 {
 fn of_special_command(error: DshotSpecialCommandError) -> u64 {
     match error {
         DshotSpecialCommandError::Faulted => FAULTED,
-        DshotSpecialCommandError::MotorsRunning => 19,
-        DshotSpecialCommandError::CommandPending => 20,
+        DshotSpecialCommandError::MotorsRunning => MOTORS_RUNNING,
+        DshotSpecialCommandError::CommandPending => COMMAND_PENDING,
     }
 }
 
@@ -54,7 +64,7 @@ pub(crate) fn of_special(answer: Special) -> u64 {
 
 fn of_telemetry_request(error: DshotTelemetryRequestError) -> u64 {
     match error {
-        DshotTelemetryRequestError::Busy => 21,
+        DshotTelemetryRequestError::Busy => TELEMETRY_PENDING,
         DshotTelemetryRequestError::Faulted => FAULTED,
     }
 }

@@ -8,6 +8,7 @@ use case_text::widths::wide16;
 use case_text::widths::wide32;
 use dshot_reply::Decoded;
 use dshot_reply::Transitions;
+use dshot_reply::refusals::PERIOD_OUT_OF_RANGE;
 use dshot_reply::simulate;
 use dshot_reply::simulate::PeriodValue;
 use dshot_reply::simulate::Simulated;
@@ -29,7 +30,7 @@ pub(crate) fn of_decoded(answer: Decoded) -> Answer {
 pub(crate) fn of_period(answer: PeriodValue) -> Answer {
     match answer {
         PeriodValue::Value(value) => answered(0, wide16(value)),
-        PeriodValue::OutOfRange => refused(16),
+        PeriodValue::OutOfRange => refused(wide32(PERIOD_OUT_OF_RANGE)),
     }
 }
 

@@ -12,6 +12,7 @@ use dshot::PacketMade;
 use dshot::Sequenced;
 use dshot::TimingMade;
 use dshot::read::FrameRead;
+use dshot_reply::refusals::WRONG_LENGTH;
 
 // The number of a refusal, and zeros; or 0, and up to four numbers, of which those that the call does not give are 0.
 pub struct Four {
@@ -87,7 +88,7 @@ pub(crate) fn of_encoded(answer: Encoded) -> u64 {
 pub(crate) fn of_sequenced(answer: Sequenced) -> Answer {
     match answer {
         Sequenced::First(duty) => answers::answered(0, wide16(duty)),
-        Sequenced::WrongLength => answers::refused(13),
+        Sequenced::WrongLength => answers::refused(wide32(WRONG_LENGTH)),
     }
 }
 

@@ -9,7 +9,7 @@ use bank_slots::service;
 ghost use mathlib.Core.Path.{_≡_};
 ghost use mathlib.Core.Bool.{true, false, not};
 ghost use lib.Dec.{eqb};
-ghost use Rattle.dshot_reply_spec.specs.Answer.{pick, if_then_else_};
+ghost use Rattle.dshot_reply_spec.specs.Answer.{if_then_else_};
 ghost use Rattle.dshot_reply_spec.specs.Refusals.{wrongLength};
 ghost use Rattle.dshot_spec.specs.Packet.{flag};
 ghost use Rattle.dshot_bank_spec.specs.State.{Buffers};
@@ -25,8 +25,8 @@ ghost use Rattle.bank_slots_spec.specs.Arguments.{taken, present, masks, runGiv
 // A new bank of a timing in four slots: the first lent buffer is current, the second spare.
 #[no_mangle]
 pub extern "C" fn kuzhenga_bank_from_lanes(timing: &[u16], bank: &mut [u16]) -> u32
-    ensures { λ r. ⌜ r ≡ pick (fit (now (bank .entry)) (sized 4 (now (timing .entry)))) 0 wrongLength ⌝ }
-    ensures { λ r. ⌜ now (bank .exit) ≡ pick (fit (now (bank .entry)) (sized 4 (now (timing .entry)))) (store (fromLanes 4 (timingAt (at (now (timing .entry)))))) (now (bank .entry)) ⌝ }
+    ensures { λ r. ⌜ r ≡ (if fit (now (bank .entry)) (sized 4 (now (timing .entry))) then 0 else wrongLength) ⌝ }
+    ensures { λ r. ⌜ now (bank .exit) ≡ (if fit (now (bank .entry)) (sized 4 (now (timing .entry))) then store (fromLanes 4 (timingAt (at (now (timing .entry))))) else now (bank .entry)) ⌝ }
 {
     commands::from_lanes(timing, bank)
 }
