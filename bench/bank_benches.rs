@@ -1,11 +1,13 @@
 //! The benches on the cycles of a bank. In a cycle the second has more than the third: four more
 //! interrupts, the lanes turned twice, and four absent windows that are decoded and counted.
 
+use crate::agree::Agreed;
 use crate::bank::{library_cycles, original_calls, original_cycles, Cycles, Left};
 use crate::bank_calls;
 use crate::bank_hardware::{Ideal, Registers};
 use crate::bank_inputs::cycles;
 use crate::benches::{pass, Bench};
+use crate::spoil::{pass_part, ANY};
 use std::rc::Rc;
 
 /// The original's cycles, and the library's.
@@ -51,10 +53,20 @@ pub fn all() -> [Bench; 6] {
     runs().map(|(name, cycles, sides)| bench(name, cycles, sides))
 }
 
+/// Numbers that a run leaves: the slots of two buffers, and the counts.
+const SLOTS: usize = 2 * 64;
+const COUNTS: usize = 6 * 4;
+
 fn same(cycles: &Cycles, Sides(original_side, library_side): Sides) -> bool {
     let [mut original, mut library] = [Left::default(); 2];
     original_side(cycles, &mut original);
     library_side(cycles, &mut library);
+    pass_part(
+        ANY,
+        0,
+        library.buffers.as_flattened_mut().as_flattened_mut(),
+    );
+    pass_part(ANY, SLOTS, library.counts.as_flattened_mut());
     original == library && whole(cycles, &original)
 }
 
@@ -76,9 +88,10 @@ fn whole(cycles: &Cycles, left: &Left) -> bool {
         && [started, completed, faults] == [all, all, 0]
 }
 
-/// The two sides are measured only where they give the same answers.
-pub fn agree() -> bool {
-    runs()
-        .iter()
-        .all(|(_, cycles, sides)| same(cycles, *sides) && same(cycles, SUMMED))
+/// Each run, and then each with the orders added up.
+pub fn agreed() -> Vec<Agreed> {
+    let summed = runs().map(|(name, cycles, _)| (name, cycles, SUMMED));
+    let runs = runs().into_iter().chain(summed);
+    let agreed = |(name, cycles, sides)| (name, SLOTS + COUNTS, same(&cycles, sides));
+    runs.map(agreed).collect()
 }

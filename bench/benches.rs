@@ -1,9 +1,11 @@
 //! The benches on replies: for either side, a pass over the same inputs.
 
+use crate::agree::Agreed;
 use crate::calls::{library_decode, library_reading};
 use crate::calls::{original_decode, original_decode_gcr, original_reading};
 use crate::exports::kuzhenga_decode_gcr;
 use crate::inputs::{self, MASK};
+use crate::spoil::{pass_part, ANY};
 use crate::{library, original};
 use ferrowasp_output::dshot_reply::DshotReplyError;
 use std::hint::black_box;
@@ -105,20 +107,26 @@ pub fn all() -> [Bench; 6] {
     ]
 }
 
-/// The two sides are measured only where they give the same answers.
-pub fn agree() -> bool {
-    let same = |window: &Window| {
-        let original = original::decode_sampled_reply(window, MASK.into(), 0);
-        original == library::decode_sampled_reply(window, MASK.into(), 0, library::READING)
-    };
-    let sets = [
-        inputs::exact_replies(),
-        inputs::late_replies(),
-        inputs::windows_without_reply(),
-    ];
-    let lists = [inputs::words(), inputs::damaged_words()];
-    sets.iter().flatten().all(same)
-        && lists
-            .iter()
-            .all(|words| original_decode(words) == library_decode(words))
+fn same_reading(window: &Window) -> bool {
+    let original = original::decode_sampled_reply(window, MASK.into(), 0);
+    original == library::decode_sampled_reply(window, MASK.into(), 0, library::READING)
+}
+
+fn same_sum(words: &[u32]) -> bool {
+    let mut sum = [library_decode(words)];
+    pass_part(ANY, 0, &mut sum);
+    [original_decode(words)] == sum
+}
+
+pub fn agreed() -> [Agreed; 5] {
+    // The refusal and four slots.
+    let readings = |name, windows: Vec<Window>| (name, 5, windows.iter().all(same_reading));
+    let sums = |name, words: Vec<u32>| (name, 1, same_sum(&words));
+    [
+        readings("exact replies", inputs::exact_replies()),
+        readings("late replies", inputs::late_replies()),
+        readings("no reply", inputs::windows_without_reply()),
+        sums("words", inputs::words()),
+        sums("damaged words", inputs::damaged_words()),
+    ]
 }

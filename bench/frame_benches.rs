@@ -1,11 +1,13 @@
 //! The benches on frames.
 
+use crate::agree::Agreed;
 use crate::benches::{pass, Bench};
 use crate::exports::kuzhenga_timing_from_clocks;
 use crate::frame_inputs::{clocks, sets, CLOCKS};
 use crate::frame_original;
 use crate::frames::{library_calls, library_sequences, original_calls, original_sequences};
 use crate::frames::{Sequences, Set};
+use crate::spoil::{self, FRAMES};
 use ferrowasp_output::dshot::{DshotTiming, DshotTimingError};
 use std::hint::black_box;
 use std::rc::Rc;
@@ -82,22 +84,34 @@ pub fn all() -> [Bench; 3] {
     ]
 }
 
-fn same_sequences(set: &Set) -> bool {
+/// The library's sequences of a set, in one call or in five.
+type Call = fn(&Set, &[u16; 4], &mut Sequences) -> u32;
+
+fn same_sequences(set: &Set, library: Call) -> bool {
     let (timing, slots) = timing();
-    let [mut right, mut whole, mut called] = [Sequences::default(); 3];
+    let [mut right, mut given] = [Sequences::default(); 2];
     original_sequences(set, timing, &mut right);
-    let refusals =
-        library_sequences(set, &slots, &mut whole) + library_calls(set, &slots, &mut called);
-    refusals == 0 && whole == right && called == right
+    let mut refusal = library(set, &slots, &mut given);
+    given.pass(&mut refusal);
+    refusal == 0 && given == right
 }
 
 fn same_timing(&(clock, rate): &(u32, u32)) -> bool {
     let mut slots = [0; 4];
-    let refusal = unsafe { kuzhenga_timing_from_clocks(clock, rate, slots.as_mut_ptr(), 4) };
+    let mut refusal = unsafe { kuzhenga_timing_from_clocks(clock, rate, slots.as_mut_ptr(), 4) };
+    spoil::pass(FRAMES, &mut refusal, &mut slots);
     refusal == 0 && frame_original::from_clocks(clock, rate) == Ok(slots)
 }
 
-/// The two sides are measured only where they give the same answers.
-pub fn agree() -> bool {
-    sets().iter().all(same_sequences) && clocks().iter().all(same_timing)
+/// Beside the refusal there are four first duties and 64 slots, or four counts of a timing.
+pub fn agreed() -> [Agreed; 3] {
+    let sequences = |name, library: Call| {
+        let same = |set: &Set| same_sequences(set, library);
+        (name, 1 + 4 + 64, sets().iter().all(same))
+    };
+    [
+        sequences("four sequences", library_sequences),
+        sequences("four sequences, five calls", library_calls),
+        ("from_clocks", 1 + 4, clocks().iter().all(same_timing)),
+    ]
 }

@@ -2,6 +2,7 @@
 //! side in one function, and in five calls.
 
 use crate::exports::{kuzhenga_encode_compare_sequence, kuzhenga_four_motor_bidirectional_packets};
+use crate::spoil::{self, FRAMES};
 use ferrowasp_output::dshot::{self, DshotPacket, DshotTiming};
 
 /// Four values, and the lane that is asked for telemetry.
@@ -22,6 +23,14 @@ impl Set {
 pub struct Sequences {
     firsts: [u16; 4],
     slots: [[u16; 16]; 4],
+}
+
+impl Sequences {
+    /// The library's, with the refusal before them, on the way to the comparison.
+    pub fn pass(&mut self, refusal: &mut u32) {
+        spoil::pass(FRAMES, refusal, &mut self.firsts);
+        spoil::pass_part(FRAMES, 5, self.slots.as_flattened_mut());
+    }
 }
 
 #[inline(never)]

@@ -1,6 +1,7 @@
 //! Measures the library, through its archive, and the source it is ported from. Prints a row a
 //! bench: nanoseconds and instructions of a call for both, and the library's over the original's.
 
+mod agree;
 mod bank;
 mod bank_benches;
 mod bank_calls;
@@ -41,6 +42,9 @@ mod random;
 #[allow(dead_code)]
 #[path = "../tools/compare/rendering.rs"]
 mod rendering;
+#[allow(dead_code)]
+#[path = "../tools/compare/spoil.rs"]
+mod spoil;
 
 use benches::Bench;
 use std::process::ExitCode;
@@ -61,8 +65,11 @@ fn all() -> Vec<Bench> {
 /// Without numbers it prints the table. It gets numbers where it runs itself: a bench to time, or a
 /// bench, a side and how many passes to make.
 fn main() -> ExitCode {
-    let words = std::env::args().skip(1);
-    let numbers: Vec<usize> = words.flat_map(|word| word.parse()).collect();
+    let words: Vec<String> = std::env::args().skip(1).collect();
+    if words == ["--seen-to-fail"] {
+        return ExitCode::from(u8::from(!agree::seen_to_fail()));
+    }
+    let numbers: Vec<usize> = words.iter().flat_map(|word| word.parse()).collect();
     match numbers[..] {
         [bench] => {
             let [original, library] = time::here(&all()[bench]);
@@ -78,8 +85,7 @@ fn main() -> ExitCode {
 }
 
 fn table() -> ExitCode {
-    if !benches::agree() || !frame_benches::agree() || !bank_benches::agree() {
-        eprintln!("the library and the original do not agree");
+    if !agree::agree() {
         return ExitCode::FAILURE;
     }
     println!("{}", HEAD.join("\n"));

@@ -1,6 +1,7 @@
 //! Wrong answers on purpose: where it is asked for, one number of what the library answers is changed
 //! before anybody compares it. So the comparison can be seen to fail.
 
+use std::ops::BitXorAssign;
 use std::sync::atomic::{AtomicUsize, Ordering};
 
 /// Calls by their kinds in the stored list, where a reading with EDT on and a call on frames have
@@ -27,12 +28,18 @@ pub fn spoil_nothing() {
 
 /// Every answer of the library goes through here.
 pub fn pass(kind: usize, returned: &mut u32, slots: &mut [u16]) {
+    pass_part(kind, 0, std::slice::from_mut(returned));
+    pass_part(kind, 1, slots);
+}
+
+/// A part of an answer, whose first number is at a place.
+pub fn pass_part<T: BitXorAssign + From<u8>>(kind: usize, first: usize, numbers: &mut [T]) {
     let spoiled = KIND.load(Ordering::Relaxed);
     if spoiled != ANY && spoiled != kind {
         return;
     }
-    match PLACE.load(Ordering::Relaxed) {
-        0 => *returned ^= 1,
-        place => slots[place - 1] ^= 1,
+    let place = PLACE.load(Ordering::Relaxed).checked_sub(first);
+    if let Some(number) = place.and_then(|place| numbers.get_mut(place)) {
+        *number ^= T::from(1);
     }
 }
