@@ -63,7 +63,7 @@ const FORMS: &str = "\
 # 19 STARTED DURATION NOW EXPIRED: command_lease_expired
 # 20 PACKET REFUSAL VALUE TELEMETRY CHECKSUM: read_packet, checksum 0 plain and 1 inverted
 # 21 FIRST ARR ZERO ONE SAMPLE REFUSAL VALUE TELEMETRY CHECKSUM SLOT*: read_compare_sequence
-# 22 COMMAND*2 INDEX LEFT GIVEN COMMAND COMMAND*2 INDEX LEFT: next_value of any run, which is left last
+# 22 COMMAND*2 INDEX LEFT GIVEN COMMAND COMMAND*2 INDEX LEFT: next_value of any run, and the run after it
 # 23 CONSTANT*12: the public constants of dshot.rs, in its order
 # Kinds 1 to 5, 8 to 19 and 23 hold the Rust's answers; 6, 7 and 20 to 22, and each refusal 13,
 # those of document 01's sentences. A step at a count of 0 they leave free: it is this port's.
