@@ -1,9 +1,12 @@
 -- `dshot_reply::reply_transitions_for` meets its contract.
 -- Assumes nothing.
+use Prim.Native.Nat.{_/_, _%_}
+use native.Mathlib.Omega.{arith}
+use lib.Dec.{lit<}
 use borrow.Author.Needs.{needs}
 use Rattle.dshot_reply.proofs.reply_transitions_for.Statement.{statement}
 use Rattle.dshot_reply.proofs.reply_transitions_for.Tie as tie
-use Rattle.dshot_reply_spec.proofs.Decode.{nibble-lt}
+use Rattle.dshot_reply_spec.proofs.XorLaws.{nibble-xor}
 use Rattle.dshot_reply_spec.specs.Gcr.{replyWord, wordOf}
 use Rattle.dshot_reply.proofs.Tables.{encode-test, encode-rule}
 
@@ -21,7 +24,9 @@ nibble-symbol-requires-3 c κs = (nibble-symbol-requires (c .before .before .bef
 nibble-symbol-requires-4 : tie.Need-nibble-symbol-requires-4
 nibble-symbol-requires-4 c κs =
     let first = c .before .before .before .before .before .before in
-    (nibble-symbol-requires first κs .0, nibble-lt (first .before .args .value) 0)
+    let v = first .before .args .value in
+    let two = nibble-xor (v / 256 % 16) (v / 16 % 16) (omega arith) (omega arith) in
+    (nibble-symbol-requires first κs .0, nibble-xor _ _ (nibble-xor _ (v % 16) two (omega arith)) (lit< tt))
 
 add-result : tie.Need-add-result
 add-result c = search needs
