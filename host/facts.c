@@ -2,21 +2,11 @@
  *
  *   facts
  */
-#include <stdio.h>
 #include <string.h>
 
 #include "bank_places.h"
+#include "expect.h"
 #include "kuzhenga.h"
-
-static int failures;
-
-static void expect(const char *what, uint64_t given, uint64_t wanted)
-{
-    if (given == wanted)
-        return;
-    printf("facts: %s: %llu, and should be %llu\n", what, (unsigned long long)given, (unsigned long long)wanted);
-    failures++;
-}
 
 /* ---- a bank that is driven ------------------------------------------------------------------------------------ */
 
@@ -148,7 +138,7 @@ static void line(void)
     expect("simulate", kuzhenga_simulate_reply(all, KUZHENGA_WINDOW_SAMPLES, 1, 0, 1), 0);
     expect("write", kuzhenga_write_capture(all, KUZHENGA_WINDOW_SAMPLES, 1, 0, file, sizeof file, written, 1), 0);
     expect("list", kuzhenga_list_capture(file, written[0], text, sizeof text, written, 1), 0);
-    expect("the line", (unsigned)strcmp((const char *)text, "1ce76e 001 erpm 600000\n"), 0);
+    expect("the line", strcmp((const char *)text, "1ce76e 001 erpm 600000\n") == 0, 1);
     expect("its length", written[0], 23);
 }
 
@@ -159,7 +149,8 @@ static void stored(void)
 {
     begin();
     expect("none are held", kuzhenga_replies_held(taken()), 0);
-    expect("and none is told", kuzhenga_lane_refusal(taken(), 0), KUZHENGA_NO_REPLY);
+    for (unsigned n = 0; n < KUZHENGA_LANES; n++)
+        expect("and none is told", taken().slots[KUZHENGA_LANE_REPLY + KUZHENGA_LANE_REPLY_SLOTS * n], KUZHENGA_NO_REPLY);
     cycle(0);
     lanes[KUZHENGA_PRESENT + 1] = 0;
     lanes[KUZHENGA_MASKS + 2] = 0;
@@ -265,5 +256,5 @@ int main(void)
     counts();
     faults();
     runs();
-    return failures != 0;
+    return expected();
 }

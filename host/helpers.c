@@ -3,20 +3,10 @@
  *
  *   helpers
  */
-#include <stdio.h>
 #include <string.h>
 
+#include "expect.h"
 #include "kuzhenga.h"
-
-static int failures;
-
-static void expect(const char *what, unsigned long given, unsigned long wanted)
-{
-    if (given == wanted)
-        return;
-    printf("helpers: %s is %lu, and should be %lu\n", what, given, wanted);
-    failures++;
-}
 
 static void readings(void)
 {
@@ -26,6 +16,9 @@ static void readings(void)
     expect("the number of a reading", kuzhenga_reading_number(speed), 600);
     expect("the largest speed", kuzhenga_reading_number(most), 600000);
     expect("a word", kuzhenga_word_bits(word), 0x17bdf9);
+    const struct kuzhenga_reading none = KUZHENGA_NO_READING;
+    expect("the kind of no reading", kuzhenga_reading_kind(none), KUZHENGA_NO_KIND);
+    expect("the number of no reading", kuzhenga_reading_number(none), KUZHENGA_NO_NUMBER);
 }
 
 /* A speed of 600, a refusal, the acknowledgement of EDT, and the largest speed. */
@@ -48,6 +41,10 @@ static void replies(void)
     expect("the last lane's number", kuzhenga_lane_number(some, SIZE_MAX), KUZHENGA_NO_NUMBER);
     for (size_t n = 0; n < KUZHENGA_LANES; n++)
         expect("a number where none are held", kuzhenga_lane_number(none, n), KUZHENGA_NO_NUMBER);
+    /* What a call that was refused leaves of zeros is no rotor at rest. */
+    const struct kuzhenga_replies zeros = {{0}};
+    expect("the refusal of zeros", kuzhenga_lane_refusal(zeros, 0), KUZHENGA_NO_REPLY);
+    expect("the number of zeros", kuzhenga_lane_number(zeros, 0), KUZHENGA_NO_NUMBER);
 }
 
 /* The count in the i-th pair of slots is 65537 i. */
@@ -93,8 +90,8 @@ static void texts(void)
     for (uint32_t a = KUZHENGA_DONE; a <= KUZHENGA_REPLIES_UNSUPPORTED; a++)
         for (uint32_t b = a + 1; b <= KUZHENGA_REPLIES_UNSUPPORTED + 1; b++)
             expect("the same text twice", strcmp(kuzhenga_refusal_text(a), kuzhenga_refusal_text(b)) == 0, 0);
-    expect("a text of none", (unsigned long)strcmp(kuzhenga_refusal_text(23), kuzhenga_refusal_text(UINT32_MAX)), 0);
-    expect("the text of 18", (unsigned long)strcmp(kuzhenga_refusal_text(18), "the bank has latched a fault"), 0);
+    expect("a text of none", strcmp(kuzhenga_refusal_text(23), kuzhenga_refusal_text(UINT32_MAX)) == 0, 1);
+    expect("the text of 18", strcmp(kuzhenga_refusal_text(18), "the bank has latched a fault") == 0, 1);
 }
 
 /* Constants of different groups, added and compared as hosts do. */
@@ -125,5 +122,5 @@ int main(void)
     orders();
     texts();
     sums();
-    return failures != 0;
+    return expected();
 }

@@ -87,7 +87,7 @@ static uint32_t serve(uint64_t now_ms)
     uint16_t lanes[KUZHENGA_HARDWARE_SLOTS];
     for (unsigned n = 0; n < KUZHENGA_LANES; n++) {
         lanes[KUZHENGA_TAKEN + n] = 1;
-        lanes[KUZHENGA_PRESENT + n] = 1;
+        lanes[KUZHENGA_PRESENT + n] = n != PULLED;
         lanes[KUZHENGA_MASKS + n] = (uint16_t)(1u << n);
     }
     uint32_t r = kuzhenga_bank_service(bank, KUZHENGA_BANK_SLOTS, now_ms, lanes, KUZHENGA_HARDWARE_SLOTS, first,

@@ -5,8 +5,11 @@
  * The numbers behind the colon of a call's first sentence are its refusals, in the order in which they are decided.
  * Each has its name beside it, without KUZHENGA_.
  *
- * A slice is a pointer and the number of its elements. If that number is 0, the pointer may be NULL. If a slice has
- * another length than its call names, the call refuses with 13 WRONG_LENGTH. A slot is a number of 16 bits. A number of
+ * Check what a call returns before you read its slots: refused, it leaves what they held, and zeros in a reading are a
+ * rotor at rest.
+ *
+ * A slice is a pointer and the number of its elements, not of its bytes. If that number is 0, the pointer may be NULL.
+ * If a slice has another length than its call names, the call refuses with 13 WRONG_LENGTH. A slot is a number of 16 bits. A number of
  * 32 bits takes two slots, the lowest bits first. A flag of 0 is no, any other number yes. If a number is wider than
  * what it stands for, its call says what counts.
  *
@@ -35,9 +38,15 @@
 extern "C" {
 #endif
 
-/* Since 0.1.0: if no replies are held, each lane has 7 NO_REPLY, and no zeros. An order to exchange names its buffer. The
- * places of a state's fields are no longer told, and its stored replies have the kinds of readings. If a run's index is
- * above 1 in a state, it is spent, however large. */
+/* Before each call that can refuse: the compiler warns if what it returns is not looked at. */
+#if defined(__cplusplus) && __cplusplus >= 201703L
+#define KUZHENGA_CHECK [[nodiscard]]
+#elif defined(__GNUC__)
+#define KUZHENGA_CHECK __attribute__((warn_unused_result))
+#else
+#define KUZHENGA_CHECK
+#endif
+
 #define KUZHENGA_VERSION_MAJOR 0
 #define KUZHENGA_VERSION_MINOR 2
 #define KUZHENGA_VERSION_PATCH 0
@@ -58,7 +67,7 @@ extern "C" {
 #define KUZHENGA_CHECKSUM 10
 #define KUZHENGA_ZERO_PERIOD 11
 #define KUZHENGA_NO_SUCH_MOTOR 12        /* a lane above 3 */
-#define KUZHENGA_NO_MASK 12              /* mask 0 where a capture is made */
+#define KUZHENGA_NO_MASK 12              /* of kuzhenga_simulate_reply: mask 0 */
 #define KUZHENGA_WRONG_LENGTH 13
 #define KUZHENGA_WRONG_DUTY 14           /* neither high time, a last slot not 0, or equal high times */
 #define KUZHENGA_PACKET_CHECKSUM 15      /* neither plain nor inverted */
@@ -77,7 +86,7 @@ static inline const char *kuzhenga_refusal_text(uint32_t number)
     static const char *const texts[] = {
         "done", "the timer clock is 0", "the bit rate is 0", "the period of a bit or of a sample is too short",
         "the period of a bit is too long", "a value is above 2047", "a throttle is above 2000", "there is no reply",
-        "the reply has too many bits", "the reply has a symbol that is none", "the reply's checksum is wrong",
+        "the reply has too many bits", "the reply has five bits that are no symbol", "the reply's checksum is wrong",
         "the reply's period is 0", "there is no such motor, or the mask is 0", "a slice has the wrong length",
         "a duty is neither high time, the last slot is not 0, or the high times are equal",
         "the packet's checksum is neither plain nor inverted", "the period is 0 or above 65535 microseconds",
@@ -88,7 +97,7 @@ static inline const char *kuzhenga_refusal_text(uint32_t number)
 
 /* ---- readings --------------------------------------------------------------------------------------------------- */
 /* The kinds, in the order of the bench's line, and what the number of each is. */
-#define KUZHENGA_ERPM 0   /* eRPM / 100; 0 at rest */
+#define KUZHENGA_ERPM 0   /* eRPM / 100, to the nearest, halves up; 0 at rest */
 #define KUZHENGA_TEMP 1   /* degrees Celsius */
 #define KUZHENGA_VOLT 2   /* quarters of a volt */
 #define KUZHENGA_AMP 3    /* amperes */
@@ -102,8 +111,12 @@ static inline const char *kuzhenga_refusal_text(uint32_t number)
 static inline uint32_t kuzhenga_pair_(const uint16_t *at) { return (uint32_t)at[0] | (uint32_t)at[1] << 16; }
 static inline uint32_t kuzhenga_lane_(const uint16_t *at, size_t n) { return n < KUZHENGA_LANES ? kuzhenga_pair_(at + 2 * n) : 0; }
 
-/* A reading is the kind in one slot and the number in two. Calls are lent the slots; the helpers take the whole. */
+/* A reading is the kind in one slot and the number in two. Calls are lent the slots; the helpers take the whole. Begin
+ * one with NO_READING: if a call is refused, its kind is then NO_KIND and its number NO_NUMBER, which no reading has. */
 #define KUZHENGA_READING_SLOTS 3
+#define KUZHENGA_NO_READING {{65535, 65535, 65535}}
+#define KUZHENGA_NO_KIND 65535u
+#define KUZHENGA_NO_NUMBER 4294967295u
 struct kuzhenga_reading { uint16_t slots[KUZHENGA_READING_SLOTS]; };
 static inline uint32_t kuzhenga_reading_kind(struct kuzhenga_reading reading) { return reading.slots[0]; }
 static inline uint32_t kuzhenga_reading_number(struct kuzhenga_reading reading) { return kuzhenga_pair_(reading.slots + 1); }
@@ -113,37 +126,45 @@ static inline uint32_t kuzhenga_reading_number(struct kuzhenga_reading reading) 
 uint32_t kuzhenga_reply_transitions_for(uint32_t value);
 
 /* The transition bits of a capture of any length: 13 WRONG_LENGTH, 7 NO_REPLY, 8 OVERLONG. A sample is high if it has a
- * bit in common with the mask, of which the low sixteen bits count. A mask of 0 reads as 7 NO_REPLY, as a pulled wire
- * does. */
+ * bit in common with the mask, of which the low sixteen bits count. Pin n's mask is 1 << n. A mask of 0 reads as
+ * 7 NO_REPLY, as a pulled wire does. */
 #define KUZHENGA_WORD_SLOTS 2
 struct kuzhenga_word { uint16_t slots[KUZHENGA_WORD_SLOTS]; };
 static inline uint32_t kuzhenga_word_bits(struct kuzhenga_word word) { return kuzhenga_pair_(word.slots); }
+KUZHENGA_CHECK
 uint32_t kuzhenga_reply_transitions(const uint16_t *samples, size_t samples_len, uint32_t pin_mask, uint16_t *word,
                                     size_t word_len /* 2 */);
 
 /* The checked value of transition bits, in one slot: 13 WRONG_LENGTH, 9 INVALID_SYMBOL, 10 CHECKSUM. Of the bits the
  * low twenty count. */
+KUZHENGA_CHECK
 uint32_t kuzhenga_decode_gcr(uint32_t transitions, uint16_t *value, size_t value_len /* 1 */);
 
 /* The reading of a value: 13 WRONG_LENGTH, 11 ZERO_PERIOD. Of the value the low twelve bits count. The flag says
  * whether EDT is on in the ESC. */
+KUZHENGA_CHECK
 uint32_t kuzhenga_reply_from_value(uint32_t value, uint32_t extended_telemetry, uint16_t *reading,
                                    size_t reading_len /* 3 */);
 
 /* The reading of a capture, by the three calls above: 13 WRONG_LENGTH, 7 NO_REPLY, 8 OVERLONG, 9 INVALID_SYMBOL,
- * 10 CHECKSUM, 11 ZERO_PERIOD. */
+ * 10 CHECKSUM, 11 ZERO_PERIOD. If the flag is 0 and EDT is on in the ESC, a temperature reads as a speed. */
+KUZHENGA_CHECK
 uint32_t kuzhenga_decode_sampled_reply(const uint16_t *samples, size_t samples_len, uint32_t pin_mask,
                                        uint32_t extended_telemetry, uint16_t *reading, size_t reading_len /* 3 */);
 
 /* ---- the simulated ESC ------------------------------------------------------------------------------------------ */
-/* The value that is sent for a period, in one slot: 13 WRONG_LENGTH, 16 PERIOD_OUT_OF_RANGE. It is 512 x exponent +
- * period / 2^exponent. The exponent is the smallest that leaves at most 511; the bits shifted out are dropped. */
+/* The value that is sent for the period of an electrical turn, in one slot: 13 WRONG_LENGTH, 16 PERIOD_OUT_OF_RANGE. It
+ * is 512 x exponent + period / 2^exponent. The exponent is the smallest that leaves at most 511; the bits shifted out
+ * are dropped. From 65408 on it is 0xFFF, which reads as at rest. */
+KUZHENGA_CHECK
 uint32_t kuzhenga_period_value(uint32_t period_us, uint16_t *value, size_t value_len /* 1 */);
 
 /* The capture that a value's reply leaves: 13 WRONG_LENGTH (fewer samples than lead + 69 REPLY_SAMPLES), 12 NO_MASK.
  * The lead is high, each bit takes three samples, and the rest is high. Every sample is written. High is the whole
- * mask, low is 0. The value's low twelve bits count, and the mask's low sixteen. */
+ * mask, low is 0. The value is one of kuzhenga_period_value, not a period. Its low twelve bits count, and the mask's
+ * low sixteen. */
 #define KUZHENGA_REPLY_SAMPLES 69
+KUZHENGA_CHECK
 uint32_t kuzhenga_simulate_reply(uint16_t *samples, size_t samples_len, uint32_t value, size_t lead, uint32_t pin_mask);
 
 /* ---- capture files -----------------------------------------------------------------------------------------------
@@ -157,11 +178,13 @@ uint32_t kuzhenga_simulate_reply(uint16_t *samples, size_t samples_len, uint32_t
 /* Reads a file: 13 WRONG_LENGTH, 17 NOT_A_CAPTURE. Its samples fill the first of the slots; the others stay. Three
  * slots take count, mask and EDT. */
 #define KUZHENGA_COUNT_MASK_EDT_SLOTS 3
+KUZHENGA_CHECK
 uint32_t kuzhenga_read_capture(const uint8_t *file, size_t file_len, uint16_t *samples, size_t samples_len /* 4096 */,
                                uint16_t *count_mask_edt, size_t count_mask_edt_len /* 3 */);
 
 /* Writes the file of at most 4096 samples: 13 WRONG_LENGTH. It fills the first of the bytes; the others stay. One slot
  * takes how many it fills. The mask's low sixteen bits count. */
+KUZHENGA_CHECK
 uint32_t kuzhenga_write_capture(const uint16_t *samples, size_t samples_len, uint32_t pin_mask,
                                 uint32_t extended_telemetry, uint8_t *file, size_t file_len /* 12294 */,
                                 uint16_t *written, size_t written_len /* 1 */);
@@ -171,6 +194,7 @@ uint32_t kuzhenga_write_capture(const uint16_t *samples, size_t samples_len, uin
  * or edt. If the capture is refused, the line is "refused" and the number, 7 to 11. If the file is no capture file, it
  * is "refused 17". A line feed ends it, and zeros follow. One slot takes its length. */
 #define KUZHENGA_LINE_BYTES 32
+KUZHENGA_CHECK
 uint32_t kuzhenga_list_capture(const uint8_t *file, size_t file_len, uint8_t *line, size_t line_len /* 32 */,
                                uint16_t *written, size_t written_len /* 1 */);
 
@@ -185,13 +209,16 @@ uint32_t kuzhenga_packet_from_value(uint32_t value, uint32_t telemetry);
 uint32_t kuzhenga_packet_from_value_bidirectional(uint32_t value, uint32_t telemetry);
 
 /* The packet of a value up to 2047 MAX_VALUE, in one slot: 13 WRONG_LENGTH, 5 VALUE_OUT_OF_RANGE. */
+KUZHENGA_CHECK
 uint32_t kuzhenga_packet_try_from_value(uint32_t value, uint32_t telemetry, uint16_t *packet,
                                         size_t packet_len /* 1 */);
 
 /* The packets of four motors: 13 WRONG_LENGTH. Of each value the low eleven bits count. The telemetry lane's packet has
  * the request bit. If that lane is above 3, none has. */
+KUZHENGA_CHECK
 uint32_t kuzhenga_four_motor_packets(const uint16_t *values, size_t values_len /* 4 */, size_t telemetry_lane,
                                      uint16_t *packets, size_t packets_len /* 4 */);
+KUZHENGA_CHECK
 uint32_t kuzhenga_four_motor_bidirectional_packets(const uint16_t *values, size_t values_len /* 4 */,
                                                    size_t telemetry_lane, uint16_t *packets,
                                                    size_t packets_len /* 4 */);
@@ -199,6 +226,7 @@ uint32_t kuzhenga_four_motor_bidirectional_packets(const uint16_t *values, size_
 /* What a packet says: 13 WRONG_LENGTH, 15 PACKET_CHECKSUM (of a number above 65535 too). The slots take the value, the
  * request bit, and 0 for a plain or 1 for an inverted checksum. */
 #define KUZHENGA_FRAME_READ_SLOTS 3
+KUZHENGA_CHECK
 uint32_t kuzhenga_read_packet(uint32_t packet, uint16_t *frame, size_t frame_len /* 3 */);
 
 /* ---- timing, duties and sequences ------------------------------------------------------------------------------- */
@@ -207,27 +235,32 @@ uint32_t kuzhenga_read_packet(uint32_t packet, uint16_t *frame, size_t frame_len
  * of a bit less 1. The next two are the high ticks of a 0 and of a 1. The last is the ticks of a sample less 1. */
 #define KUZHENGA_TIMING_SLOTS 4
 #define KUZHENGA_DSHOT600_HZ 600000 /* DShot600's bit rate */
+KUZHENGA_CHECK
 uint32_t kuzhenga_timing_from_clocks(uint32_t timer_hz, uint32_t bitrate_hz, uint16_t *timing,
                                      size_t timing_len /* 4 */);
 
 /* The high time of a bit, in one slot: 13 WRONG_LENGTH. */
+KUZHENGA_CHECK
 uint32_t kuzhenga_duty_for_bit(const uint16_t *timing, size_t timing_len /* 4 */, uint32_t set, uint16_t *duty,
                                size_t duty_len /* 1 */);
 
 /* A packet's frame at a largest duty, sixteen duties and six zeros: 13 WRONG_LENGTH. Of both numbers the low sixteen
  * bits count. */
 #define KUZHENGA_FRAME_SLOTS 22
+KUZHENGA_CHECK
 uint32_t kuzhenga_encode_packet(uint32_t packet, uint32_t max_duty, uint16_t *output, size_t output_len /* 22 */);
 
 /* A packet's sequence, the first duty in one slot, fifteen more and a zero in sixteen: 13 WRONG_LENGTH. Of the packet
  * the low sixteen bits count. */
 #define KUZHENGA_SEQUENCE_SLOTS 16
+KUZHENGA_CHECK
 uint32_t kuzhenga_encode_compare_sequence(uint32_t packet, const uint16_t *timing, size_t timing_len /* 4 */,
                                           uint16_t *first, size_t first_len /* 1 */, uint16_t *dma_output,
                                           size_t dma_output_len /* 16 */);
 
 /* What a sequence says, in the slots of kuzhenga_read_packet: 13 WRONG_LENGTH, 14 WRONG_DUTY (of a first duty above
  * 65535 too), 15 PACKET_CHECKSUM. The timing is the one that it was made with. */
+KUZHENGA_CHECK
 uint32_t kuzhenga_read_compare_sequence(uint32_t first, const uint16_t *dma_output, size_t dma_output_len /* 16 */,
                                         const uint16_t *timing, size_t timing_len /* 4 */, uint16_t *frame,
                                         size_t frame_len /* 3 */);
@@ -238,21 +271,25 @@ uint32_t kuzhenga_read_compare_sequence(uint32_t first, const uint16_t *dma_outp
 uint32_t kuzhenga_throttle_to_dshot(uint32_t value);
 
 /* The same of four throttles: 13 WRONG_LENGTH. */
+KUZHENGA_CHECK
 uint32_t kuzhenga_throttles_to_dshot(const uint16_t *values, size_t values_len /* 4 */, uint16_t *out,
                                      size_t out_len /* 4 */);
 
 /* A command run is two commands, the index of the next one, and how often that is still to be sent. If the index is
- * above 1, the run is spent. Of the last slot the low byte counts, 0 for 256. */
+ * above 1, the run is spent. Of the last slot the low byte counts, 0 for 256. Once the first command is done, the second
+ * is sent ten times. */
 #define KUZHENGA_RUN_SLOTS 4
 #define KUZHENGA_COMMAND_SAVE_SETTINGS 12
 #define KUZHENGA_COMMAND_SPIN_NORMAL 20
 #define KUZHENGA_COMMAND_SPIN_REVERSED 21
 
 /* The run that sets the spin direction and saves it, each command ten times: 13 WRONG_LENGTH. */
+KUZHENGA_CHECK
 uint32_t kuzhenga_command_spin_direction(uint32_t reversed, uint16_t *run, size_t run_len /* 4 */);
 
 /* Steps a run: 13 WRONG_LENGTH. Two slots take 1 and the next command, or 0 and 0 if the run is spent. */
 #define KUZHENGA_COMMAND_SLOTS 2
+KUZHENGA_CHECK
 uint32_t kuzhenga_command_next_value(uint16_t *run, size_t run_len /* 4 */, uint16_t *value, size_t value_len /* 2 */);
 
 /* 1 once a lease is older than its duration, else 0. The difference is taken modulo 2^64. If the clock is before the
@@ -267,17 +304,18 @@ uint32_t kuzhenga_command_lease_expired(uint64_t started_ms, uint32_t duration_m
  * bank they are is. Times are milliseconds of one clock, which may wrap.
  *
  * The hardware's answers come with a call, and the orders to it leave in the answer, to be done in their order. An
- * answer that a call does not ask for counts for nothing. Some are asked for before the order: whether a lane takes its
- * buffer, and whether the lanes turn around. A host that cannot know says yes.
+ * answer that a call does not ask for counts for nothing. Some are given before the order is done: whether a lane takes
+ * its buffer (TAKEN), and whether the lanes turn around (turned, turned_back). A host that cannot know says yes.
  *
  * If an order then fails, the host latches a fault. It calls kuzhenga_bank_on_dma_interrupt for any lane with dma_error
- * 1, and does the orders of that answer. If a set is in flight and the lane is not done, the event is
- * KUZHENGA_INTERRUPT_FAULTED. Else it is KUZHENGA_SPURIOUS, which latches too.
+ * 1, and does the orders of that answer. If a set is in flight and the lane is not done, or if a fault was latched
+ * before, the event is KUZHENGA_INTERRUPT_FAULTED. Else it is KUZHENGA_SPURIOUS, which latches too.
  *
- * A frame set goes so. A service starts it. One interrupt follows for each lane's stream. In a bidirectional bank the
- * last of them orders the lanes to receive. Then one interrupt follows for each lane's window, and the last orders the
- * lanes back. The next service reads the windows and starts the next set. If a set is still in flight, a service starts
- * nothing. It answers busy, or lease expired if the lease ends there.
+ * A frame set goes so. A service starts it. One interrupt follows for each lane's stream, and orders its pause. In one
+ * direction the last of them orders STOP_FRAME. In a bidirectional bank it orders the lanes to receive. Then one
+ * interrupt follows for each lane's window, and the last orders the lanes back. The next service reads the windows and
+ * starts the next set. If a set is still in flight, a service starts nothing. It answers busy, or lease expired if the
+ * lease ends there.
  *
  * A service latches a fault if the set in flight is more than 1 ms old, or if a lane does not take its buffer. An
  * interrupt latches one if no set is in flight, or if the lane is done already. It also does if the stream is in error
@@ -290,37 +328,46 @@ uint32_t kuzhenga_command_lease_expired(uint64_t started_ms, uint32_t duration_m
 
 /* A new bank of a timing, in one direction: 13 WRONG_LENGTH. The lanes send from the first buffer; the second is
  * spare. */
+KUZHENGA_CHECK
 uint32_t kuzhenga_bank_from_lanes(const uint16_t *timing, size_t timing_len /* 4 */, uint16_t *bank,
                                   size_t bank_len /* 97 */);
 
 /* Switches to bidirectional DShot: 13 WRONG_LENGTH, 22 REPLIES_UNSUPPORTED. The flag says whether every lane can
  * receive replies. Meant for before the first frame; a later call is not refused. */
+KUZHENGA_CHECK
 uint32_t kuzhenga_bank_enable_bidirectional(uint16_t *bank, size_t bank_len, uint32_t receives_replies);
 
 /* Stops the motors and ends the lease: 13 WRONG_LENGTH. */
+KUZHENGA_CHECK
 uint32_t kuzhenga_bank_command_stop(uint16_t *bank, size_t bank_len);
 
 /* The throttles of the motors for lease_ms: 13 WRONG_LENGTH, 18 FAULTED, 6 THROTTLE_OUT_OF_RANGE. Four zeros stop. */
+KUZHENGA_CHECK
 uint32_t kuzhenga_bank_command_throttles(uint16_t *bank, size_t bank_len, const uint16_t *throttles,
                                          size_t throttles_len /* 4 */, uint64_t now_ms, uint32_t lease_ms);
 
 /* Queues a command run for one motor: 13 WRONG_LENGTH, 12 NO_SUCH_MOTOR, 18 FAULTED, 19 MOTORS_RUNNING,
- * 20 COMMAND_PENDING. Its commands are sent as they are given. Numbers up to 47 MAX_COMMAND are commands to an ESC. A
- * larger one is a throttle, which no lease ends. */
+ * 20 COMMAND_PENDING. Its commands are sent as they are given, one a frame set with the request bit, and 0 to the other
+ * motors. Numbers up to 47 MAX_COMMAND are commands to an ESC. A larger one is a throttle, which no lease ends. If a
+ * service sends a requested value other than 0, it drops the rest of the run. A stop leaves the run. */
 #define KUZHENGA_MAX_COMMAND 47
+KUZHENGA_CHECK
 uint32_t kuzhenga_bank_command_special(uint16_t *bank, size_t bank_len, size_t motor, const uint16_t *run,
                                        size_t run_len /* 4 */);
 
 /* Requests telemetry of one motor: 13 WRONG_LENGTH, 12 NO_SUCH_MOTOR, 18 FAULTED, 21 TELEMETRY_PENDING. The next
- * ordinary frame carries the request bit; the ESC answers on its serial line. */
+ * frame set without a command carries the request bit; the ESC answers on its serial line. */
+KUZHENGA_CHECK
 uint32_t kuzhenga_bank_request_telemetry(uint16_t *bank, size_t bank_len, size_t motor);
 
 /* Withdraws a telemetry request that no frame has carried: 13 WRONG_LENGTH. */
+KUZHENGA_CHECK
 uint32_t kuzhenga_bank_cancel_telemetry_request(uint16_t *bank, size_t bank_len);
 
-/* Takes the lane whose telemetry request the last service sent: 13 WRONG_LENGTH. It gives 1 and the lane, or 0 and
- * 0. */
+/* Takes the lane whose telemetry request the last service sent: 13 WRONG_LENGTH. It gives 1 and the lane, or 0 and 0.
+ * The next service forgets it, even if that answers busy. */
 #define KUZHENGA_REQUEST_SENT_SLOTS 2
+KUZHENGA_CHECK
 uint32_t kuzhenga_bank_take_telemetry_request_sent(uint16_t *bank, size_t bank_len, uint16_t *motor,
                                                    size_t motor_len /* 2 */);
 
@@ -342,7 +389,8 @@ static inline unsigned kuzhenga_order_buffer(uint16_t order) { return order / 4u
 
 /* A service or an interrupt answers with the event, how many orders there are, the orders, and zeros after them. A
  * service has room for nine orders. Then come the four first duties for KUZHENGA_START_FRAME, zeros without it. An
- * interrupt has room for seven orders. */
+ * interrupt has room for seven orders. The event is in the answer, never in what is returned. The two lists of events
+ * share numbers. */
 #define KUZHENGA_EVENT 0
 #define KUZHENGA_ORDERS 1
 #define KUZHENGA_FIRST_ORDER 2
@@ -363,7 +411,7 @@ static inline unsigned kuzhenga_order_buffer(uint16_t order) { return order / 4u
 
 /* The hardware's answers to a service, each for the four lanes from its slot on. */
 #define KUZHENGA_TAKEN 0             /* whether the lane takes its buffer */
-#define KUZHENGA_PRESENT 4           /* whether it has a capture */
+#define KUZHENGA_PRESENT 4           /* whether it has a capture of the last set; an old one would be read as new */
 #define KUZHENGA_MASKS 8             /* the mask of that capture */
 #define KUZHENGA_HARDWARE_SLOTS 12
 
@@ -373,6 +421,7 @@ static inline unsigned kuzhenga_order_buffer(uint16_t order) { return order / 4u
  * lent, even if none is read. What a window reads as is stored, a refusal too, which is no refusal of the call. If a
  * lane has no capture, 7 NO_REPLY is stored. Windows are read with EDT off. An EDT reply then reads as a speed or as
  * 11 ZERO_PERIOD, and 0xE00 as 8 KUZHENGA_EDT. So EDT must stay off in the ESCs of a bank. */
+KUZHENGA_CHECK
 uint32_t kuzhenga_bank_service(uint16_t *bank, size_t bank_len, uint64_t now_ms, const uint16_t *lanes,
                                size_t lanes_len /* 12 */, uint16_t *first, size_t first_len /* 64 */, uint16_t *second,
                                size_t second_len /* 64 */, const uint16_t *captures, size_t captures_len /* 640 */,
@@ -380,6 +429,7 @@ uint32_t kuzhenga_bank_service(uint16_t *bank, size_t bank_len, uint64_t now_ms,
 
 /* A lane's DMA interrupt: 13 WRONG_LENGTH, 12 NO_SUCH_MOTOR. transfer_complete and dma_error are the status of its
  * stream, turned is whether every lane turned to receive, turned_back whether every lane turned back. */
+KUZHENGA_CHECK
 uint32_t kuzhenga_bank_on_dma_interrupt(uint16_t *bank, size_t bank_len, size_t motor, uint32_t transfer_complete,
                                         uint32_t dma_error, uint32_t turned, uint32_t turned_back, uint16_t *answer,
                                         size_t answer_len /* 9 */);
@@ -391,17 +441,18 @@ uint32_t kuzhenga_bank_on_dma_interrupt(uint16_t *bank, size_t bank_len, size_t 
 #define KUZHENGA_LANE_REPLY 1        /* where lane 0's slots begin */
 #define KUZHENGA_LANE_REPLY_SLOTS 4
 struct kuzhenga_replies { uint16_t slots[KUZHENGA_REPLIES_SLOTS]; };
+KUZHENGA_CHECK
 uint32_t kuzhenga_bank_take_replies(uint16_t *bank, size_t bank_len, uint16_t *replies, size_t replies_len /* 17 */);
 
-/* Whether replies were held: 1 or 0. Lane n's refusal is 7 to 11, or 0 if it has a reading. If n is above 3, it is
- * 12 NO_SUCH_MOTOR. If a lane has a refusal, its kind is NO_KIND and its number NO_NUMBER, which no reading has. */
-#define KUZHENGA_NO_KIND 65535u
-#define KUZHENGA_NO_NUMBER 4294967295u
+/* Whether replies were held: 1 or 0. Lane n's refusal is 7 to 11, or 0 if it has a reading. If none were held, it is
+ * 7 NO_REPLY. If n is above 3, it is 12 NO_SUCH_MOTOR. If a lane has a refusal, its kind is NO_KIND and its number
+ * NO_NUMBER. */
 static inline uint32_t kuzhenga_replies_held(struct kuzhenga_replies replies) { return replies.slots[0]; }
 static inline uint32_t kuzhenga_lane_refusal(struct kuzhenga_replies replies, size_t n)
 {
-    return n < KUZHENGA_LANES ? replies.slots[KUZHENGA_LANE_REPLY + KUZHENGA_LANE_REPLY_SLOTS * n]
-                              : KUZHENGA_NO_SUCH_MOTOR;
+    if (n >= KUZHENGA_LANES)
+        return KUZHENGA_NO_SUCH_MOTOR;
+    return replies.slots[0] ? replies.slots[KUZHENGA_LANE_REPLY + KUZHENGA_LANE_REPLY_SLOTS * n] : KUZHENGA_NO_REPLY;
 }
 static inline uint32_t kuzhenga_lane_kind(struct kuzhenga_replies replies, size_t n)
 {
@@ -416,23 +467,31 @@ static inline uint32_t kuzhenga_lane_number(struct kuzhenga_replies replies, siz
                : kuzhenga_pair_(replies.slots + KUZHENGA_LANE_REPLY + KUZHENGA_LANE_REPLY_SLOTS * n + 2);
 }
 
-/* The calls that only look, three into one slot and one into four: 13 WRONG_LENGTH. */
+/* The calls that only look, three into one slot and one into four: 13 WRONG_LENGTH. What they return is 0 when they are
+ * done, whatever the flag in the slot is. A run is pending until the service after its last command. */
+KUZHENGA_CHECK
 uint32_t kuzhenga_bank_is_bidirectional(const uint16_t *bank, size_t bank_len, uint16_t *flag, size_t flag_len);
+KUZHENGA_CHECK
 uint32_t kuzhenga_bank_is_faulted(const uint16_t *bank, size_t bank_len, uint16_t *flag, size_t flag_len);
+KUZHENGA_CHECK
 uint32_t kuzhenga_bank_command_pending(const uint16_t *bank, size_t bank_len, uint16_t *flag, size_t flag_len);
+KUZHENGA_CHECK
 uint32_t kuzhenga_bank_requested_values(const uint16_t *bank, size_t bank_len, uint16_t *values,
                                         size_t values_len /* 4 */);
 
 /* Eleven counts of 32 bits, in the order of the helpers below: 13 WRONG_LENGTH. They wrap at 2^32. A lane's completions
- * count what it transmitted, and not its windows. */
+ * count what it transmitted, and not its windows. DMA faults count each fault that is latched, whatever its cause. A
+ * timeout counts as a busy skip too. */
 #define KUZHENGA_STATS_SLOTS 22
 struct kuzhenga_stats { uint16_t slots[KUZHENGA_STATS_SLOTS]; };
+KUZHENGA_CHECK
 uint32_t kuzhenga_bank_stats(const uint16_t *bank, size_t bank_len, uint16_t *counts, size_t counts_len /* 22 */);
 
 /* Twelve counts of 32 bits, each of the four lanes, in the order of the helpers below: 13 WRONG_LENGTH. They wrap at
  * 2^32, but the invalid replies in a row stop at 4294967295, the largest count. */
 #define KUZHENGA_REPLY_STATS_SLOTS 24
 struct kuzhenga_reply_stats { uint16_t slots[KUZHENGA_REPLY_STATS_SLOTS]; };
+KUZHENGA_CHECK
 uint32_t kuzhenga_bank_reply_stats(const uint16_t *bank, size_t bank_len, uint16_t *counts, size_t counts_len /* 24 */);
 
 /* The counts. If n is above 3, lane n's is 0. */
@@ -449,6 +508,7 @@ static inline uint32_t kuzhenga_lane_invalid(struct kuzhenga_reply_stats s, size
 static inline uint32_t kuzhenga_lane_invalid_in_a_row(struct kuzhenga_reply_stats s, size_t n) { return kuzhenga_lane_(s.slots + 16, n); }
 
 /* The sequence that a lane is sending, out of whichever buffer holds it: 13 WRONG_LENGTH, 12 NO_SUCH_MOTOR. */
+KUZHENGA_CHECK
 uint32_t kuzhenga_bank_sending(const uint16_t *bank, size_t bank_len, const uint16_t *first, size_t first_len /* 64 */,
                                const uint16_t *second, size_t second_len /* 64 */, size_t motor, uint16_t *slots,
                                size_t slots_len /* 16 */);
@@ -456,6 +516,10 @@ uint32_t kuzhenga_bank_sending(const uint16_t *bank, size_t bank_len, const uint
 /* 1 if no frame set was released for two milliseconds, on a clock of 32 bits that may wrap, else 0. A host without new
  * throttles then calls kuzhenga_bank_service, which also finds a lease that was not renewed. */
 uint32_t kuzhenga_fallback_release_due(uint32_t now_ms, uint32_t last_release_ms);
+
+/* Since 0.1.0: if no replies are held, each lane has 7 NO_REPLY, and no zeros. An order to exchange names its buffer. The
+ * places of a state's fields are no longer told, and its stored replies have the kinds of readings. If a run's index is
+ * above 1 in a state, it is spent, however large. */
 
 #ifdef __cplusplus
 }

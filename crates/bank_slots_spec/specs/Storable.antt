@@ -1,4 +1,4 @@
--- Which banks the library's types can hold.
+-- Which banks the library's types can hold, with the debug channels that the reader gives.
 -- Added, for the calls that document 01 asks for from C.
 -- Assumes nothing.
 use Prim.Native.Nat.{ℕ, _+_, _^_, _<_, _≤_}
@@ -44,7 +44,8 @@ ReplyFits (given (state n)) = n < 256
 ReplyFits (given edt) = Unit
 ReplyFits (refused number) = (7 ≤ number) × (number ≤ 11)
 
--- a bank of four lanes that the library's types can hold; numbers of 16 and 32 bits are not bounded here, since they come back whatever they are
+-- a bank of four lanes that the library's types can hold, with debug channels 1 to 3, since the reader gives no other. Numbers of 16 and 32 bits are
+-- not bounded here: they come back whatever they are
 pub record Storable (b : Bank) : Type 0 where
   pub values : length (b .core .demand .requestedValues) ≡ 4
   pub leaseStarted : b .core .demand .leaseStartedMs < 2 ^ 64

@@ -1,0 +1,33 @@
+/* For test hosts: compares numbers, and tells those that are not as they should be. If WRONG stands in the environment,
+ * each is compared with one more than it should be, so that the host can be seen to fail.
+ */
+#ifndef EXPECT_H
+#define EXPECT_H
+
+#include <stdio.h>
+#include <stdlib.h>
+
+static unsigned long compared, failures;
+
+static void expect(const char *what, unsigned long long given, unsigned long long wanted)
+{
+    static int wrong = -1;
+    if (wrong < 0)
+        wrong = getenv("WRONG") != NULL;
+    wanted += (unsigned)wrong;
+    compared++;
+    if (given == wanted)
+        return;
+    failures++;
+    if (!wrong)
+        printf("%s: %llu, and should be %llu\n", what, given, wanted);
+}
+
+/* The status of the host. */
+static int expected(void)
+{
+    printf("%lu compared, %lu differ\n", compared, failures);
+    return failures != 0;
+}
+
+#endif
