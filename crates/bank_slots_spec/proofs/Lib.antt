@@ -20,3 +20,4 @@ pub mod SlotsFollow
 pub mod SlotMeanings
 pub mod TellsOnly
 pub mod MadeInhabited
+pub mod RanInhabited
