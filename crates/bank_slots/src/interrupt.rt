@@ -109,19 +109,19 @@ fn opens_window(state: &[u16]) -> bool
 }
 
 // The event and seven slots for orders, of which `count` are given.
-fn tell(out: &mut [u16], event: u16, count: u16, codes: [u16; 7])
+fn tell(out: &mut [u16], event: u16, count: u16, orders: [u16; 7])
     requires { ⌜ length (now out) ≡ 9 ⌝ }
-    ensures { λ r. ⌜ now (out .exit) ≡ event ∷ count ∷ codes ⌝ }
+    ensures { λ r. ⌜ now (out .exit) ≡ event ∷ count ∷ orders ⌝ }
 {
     out[0] = event;
     out[1] = count;
-    out[2] = codes[0];
-    out[3] = codes[1];
-    out[4] = codes[2];
-    out[5] = codes[3];
-    out[6] = codes[4];
-    out[7] = codes[5];
-    out[8] = codes[6];
+    out[2] = orders[0];
+    out[3] = orders[1];
+    out[4] = orders[2];
+    out[5] = orders[3];
+    out[6] = orders[4];
+    out[7] = orders[5];
+    out[8] = orders[6];
 }
 
 // The lane's pause alone.

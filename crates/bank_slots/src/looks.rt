@@ -168,13 +168,13 @@ pub fn reply_stats(bank: &[u16], out: &mut [u16]) -> u32
 // ---- replies
 
 // The reply that is stored as a kind and a number.
-fn stored(kind: u16, number: u32) -> ReplyRead
-    ensures { λ r. ⌜ replyAnswer r ≡ reply kind number ⌝ }
+fn stored(kind: u16, carried: u32) -> ReplyRead
+    ensures { λ r. ⌜ replyAnswer r ≡ reply kind carried ⌝ }
 {
-    let low = (number % 256) as u8;
+    let low = (carried % 256) as u8;
     match kind {
         0 => ReplyRead::Reply(DshotReply::Erpm {
-            erpm_div100: number,
+            erpm_div100: carried,
         }),
         1 => ReplyRead::Reply(DshotReply::Temperature { celsius: low }),
         2 => ReplyRead::Reply(DshotReply::Voltage { quarter_volts: low }),

@@ -354,21 +354,21 @@ fn frame_started(state: &mut [u16], now_ms: u64, ordinary: bool)
 // ---- the answer of a service
 
 // The event, nine slots for orders, of which `count` are given, and the first duties.
-pub(crate) fn tell(out: &mut [u16], event: u16, count: u16, codes: [u16; 9], duties: MotorValues)
+pub(crate) fn tell(out: &mut [u16], event: u16, count: u16, orders: [u16; 9], duties: MotorValues)
     requires { ⌜ length (now out) ≡ 15 ⌝ }
-    ensures { λ r. ⌜ now (out .exit) ≡ event ∷ count ∷ (codes ++ duties) ⌝ }
+    ensures { λ r. ⌜ now (out .exit) ≡ event ∷ count ∷ (orders ++ duties) ⌝ }
 {
     out[0] = event;
     out[1] = count;
-    out[2] = codes[0];
-    out[3] = codes[1];
-    out[4] = codes[2];
-    out[5] = codes[3];
-    out[6] = codes[4];
-    out[7] = codes[5];
-    out[8] = codes[6];
-    out[9] = codes[7];
-    out[10] = codes[8];
+    out[2] = orders[0];
+    out[3] = orders[1];
+    out[4] = orders[2];
+    out[5] = orders[3];
+    out[6] = orders[4];
+    out[7] = orders[5];
+    out[8] = orders[6];
+    out[9] = orders[7];
+    out[10] = orders[8];
     out[11] = duties[0];
     out[12] = duties[1];
     out[13] = duties[2];
@@ -398,9 +398,9 @@ pub(crate) fn send(
     ensures { λ r. ⌜ Serves (λ (k : Bank) (b : Buffers). Spec.sending 4 «now_ms» (taken (now (lanes .entry))) [] [] [] [] b «lease_expired» (k .core) (k .replies)) (record { first = now (first .entry); second = now (second .entry) }) (record { first = now (first .exit); second = now (second .exit) }) (now (state .entry)) (now (state .exit)) (now (out .exit)) ⌝ }
 {
     let next = next_command_frame(state);
-    let set = frame_set(state, next);
-    let values = set.values;
-    let lane = set.telemetry_lane;
+    let next_set = frame_set(state, next);
+    let values = next_set.values;
+    let lane = next_set.telemetry_lane;
     let packets = dshot::packets_of_kind(kind(state), values, lane);
     let marks = marks_at(state);
     let spares = encode_spares(first, second, marks, packets, timing_at(state));
@@ -417,7 +417,7 @@ pub(crate) fn send(
         );
         return;
     }
-    frame_started(state, now_ms, set.ordinary);
+    frame_started(state, now_ms, next_set.ordinary);
     tell(
         out,
         sent_event(lease_expired),

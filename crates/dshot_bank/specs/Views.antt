@@ -3,8 +3,7 @@
 -- Assumes nothing.
 use Prim.Native.Nat.{ℕ}
 use mathlib.Core.List.{List, []}
-use Rattle.dshot_reply_spec.specs.Refusals.{wrongLength}
-use Rattle.dshot_reply_spec.specs.Refusals.{noSuchMotor}
+use Rattle.dshot_reply_spec.specs.Refusals.{wrongLength, noSuchMotor}
 use Rattle.dshot_bank_spec.specs.Calls.{Answer, done, refused, motor-sent, serviced, interrupted, replied, flag, counts, values, reply-counts, slots}
 use Rattle.dshot_bank.specs.declared.looks.View.{View}
 use Rattle.dshot_bank.specs.declared.looks.View.the-variants.{Shown, WrongLength, NoSuchMotor}

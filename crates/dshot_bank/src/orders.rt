@@ -152,10 +152,10 @@ impl Orders {
                 motor: 0,
             };
         }
-        let code = self.codes % 128;
+        let entry = self.codes % 128;
         Order {
-            kind: OrderKind::of(code / 8),
-            motor: (code % 8) as u8,
+            kind: OrderKind::of(entry / 8),
+            motor: (entry % 8) as u8,
         }
     }
 

@@ -461,9 +461,9 @@ impl Core {
     {
         let next = self.next_command_frame();
         let command = next.command;
-        let set = self.frame_set(command);
-        let values = set.values;
-        let lane = set.telemetry_lane;
+        let next_set = self.frame_set(command);
+        let values = next_set.values;
+        let lane = next_set.telemetry_lane;
         let packets = packets_of_kind(self.kind(), values, lane);
         let marks = self.frame.in_second;
         let duties = encode_lanes(first, second, marks, packets, self.timing);
@@ -471,7 +471,7 @@ impl Core {
         let mut core = self;
         let requests = core.requests.running(left);
         core.requests = requests;
-        let request = set.telemetry_request;
+        let request = next_set.telemetry_request;
         core.exchange_buffers(now_ms, taken, request, duties)
     }
 }

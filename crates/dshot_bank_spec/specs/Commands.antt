@@ -11,7 +11,7 @@ use mathlib.Core.Option.{Option, none, some}
 use lib.Dec.{ltb, leb}
 use lib.ListN.{replicate}
 use Rattle.dshot_reply_spec.specs.Answer.{Answer, given, refused, if_then_else_}
-use Rattle.dshot_reply_spec.specs.Refusals.{noReply}
+use Rattle.dshot_reply_spec.specs.Refusals.{noReply, throttleOutOfRange, faulted, motorsRunning, commandPending, telemetryPending, repliesUnsupported}
 use Rattle.dshot_spec.specs.Timing.{Timing}
 use Rattle.dshot_spec.specs.Lease.{elapsed}
 use Rattle.dshot_spec.specs.Throttle.{throttleValues}
@@ -20,7 +20,6 @@ use Rattle.dshot_spec.specs.Command as Command
 use Rattle.dshot_bank_spec.specs.Lanes.{any, isSome}
 use Rattle.dshot_bank_spec.specs.State.{Demand, MotorRun, Core, LaneReply, Bank}
 use Rattle.dshot_bank_spec.specs.With.{withDemand, withTelemetry, withCommandSequence, withFrame, withBidirectional}
-use Rattle.dshot_reply_spec.specs.Refusals.{throttleOutOfRange, faulted, motorsRunning, commandPending, telemetryPending, repliesUnsupported}
 
 -- a lane of which no window has been read
 abbrev pub noReplies : LaneReply

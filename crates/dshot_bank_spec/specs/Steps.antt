@@ -5,10 +5,9 @@ use Prim.Native.Nat.{ℕ, _*_}
 use mathlib.Core.Bool.{Bool, false}
 use lib.Dec.{eqb, ltb}
 use lib.ListN.{length}
-use Rattle.dshot_reply_spec.specs.Refusals.{wrongLength}
+use Rattle.dshot_reply_spec.specs.Refusals.{wrongLength, noSuchMotor}
 use Rattle.dshot_reply_spec.specs.Answer.{if_then_else_}
 use Rattle.dshot_bank_spec.specs.State.{Buffers}
-use Rattle.dshot_reply_spec.specs.Refusals.{noSuchMotor}
 use Rattle.dshot_bank_spec.specs.Calls.{Call, enable-bidirectional, command-stop, command-throttles, command-special, request-telemetry, cancel-telemetry-request, take-telemetry-request-sent, service-call, on-dma-interrupt, take-replies, is-bidirectional, is-faulted, stats, requested-values, command-pending, reply-stats, sending, lend, refused, State, Stepped, told, act}
 
 -- ---- what only the port refuses: a lent buffer of the wrong length, and then a lane that there is not. The source's types allow neither
