@@ -1,5 +1,5 @@
-// Reads the options, and says what is wrong with them.
-#include "options.h"
+/* Reads the options of `kuzhenga make`, and says what is wrong with them. */
+#include "make_options.h"
 
 #include <ctype.h>
 #include <errno.h>
@@ -25,14 +25,15 @@ static const struct kind kinds[NUMBERED] = {
     [DAMAGE] = {"--damage", 10, 0, 19, "a bit from 0 to 19"},
 };
 
-static bool refuse(const char *what, const char *why) {
-    fprintf(stderr, "make_capture: %s %s\n", what, why);
+static bool refuse(const char *what, const char *why)
+{
+    fprintf(stderr, "kuzhenga: %s %s\n", what, why);
     return false;
 }
 
-// The number that a text starts with, and the text after it; false where there is none in range.
-static bool read_number(const char *text, int base, uint32_t most, uint32_t *number,
-                        char **after) {
+/* The number that a text starts with, and the text after it. False if there is none in range. */
+static bool read_number(const char *text, int base, uint32_t most, uint32_t *number, char **after)
+{
     if (!isxdigit((unsigned char)text[0])) {
         return false;
     }
@@ -45,13 +46,14 @@ static bool read_number(const char *text, int base, uint32_t most, uint32_t *num
     return true;
 }
 
-static bool read_numbered(enum numbered which, const char *text, struct options *options) {
+static bool read_numbered(enum numbered which, const char *text, struct make_options *options)
+{
     const struct kind *kind = &kinds[which];
     uint32_t number = 0;
     char *after = NULL;
     if (!read_number(text, kind->base, kind->most, &number, &after) || *after != '\0' ||
         number < kind->least) {
-        fprintf(stderr, "make_capture: %s takes %s\n", kind->name, kind->takes);
+        fprintf(stderr, "kuzhenga: %s takes %s\n", kind->name, kind->takes);
         return false;
     }
     options->given[which] = true;
@@ -59,8 +61,9 @@ static bool read_numbered(enum numbered which, const char *text, struct options 
     return true;
 }
 
-// Two bits of the word, one place apart.
-static bool read_move(const char *text, struct options *options) {
+/* Two bits of the word, one place apart. */
+static bool read_move(const char *text, struct make_options *options)
+{
     char *after = NULL;
     if (!read_number(text, 10, 19, &options->from, &after) || *after != ',') {
         return refuse("--move", "takes two bits from 0 to 19, as 15,14");
@@ -75,8 +78,9 @@ static bool read_move(const char *text, struct options *options) {
     return true;
 }
 
-// Reads the option at a word; the number of words that it takes, or 0 with a message.
-static int read_option(const char *word, const char *next, struct options *options) {
+/* Reads the option at a word; the number of words that it takes, or 0 with a message. */
+static int read_option(const char *word, const char *next, struct make_options *options)
+{
     if (strcmp(word, "--edt") == 0) {
         options->extended_telemetry = true;
         return 1;
@@ -97,8 +101,9 @@ static int read_option(const char *word, const char *next, struct options *optio
     return 0;
 }
 
-// Whether the options go together.
-static bool consistent(const struct options *options) {
+/* Whether the options go together. */
+static bool consistent(const struct make_options *options)
+{
     int replies = options->given[VALUE] + options->given[PERIOD] + options->none;
     if (replies != 1) {
         return refuse("one of --value, --period and --none", "is needed, and only one");
@@ -115,14 +120,15 @@ static bool consistent(const struct options *options) {
     return true;
 }
 
-bool read_options(int count, char **words, struct options *options) {
-    *options = (struct options){0};
+bool read_make_options(int count, char **words, struct make_options *options)
+{
+    *options = (struct make_options){0};
     options->number[LEAD] = 10;
     options->number[MASK] = 1;
     options->number[SAMPLES] = 160;
-    int at = 1;
+    int at = 0;
     while (at < count) {
-        // An option at the end has no number: the empty text is none.
+        /* An option at the end has no number: the empty text is none. */
         int taken = read_option(words[at], at + 1 < count ? words[at + 1] : "", options);
         if (taken == 0) {
             return false;
