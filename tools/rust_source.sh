@@ -1,7 +1,9 @@
 # What tools/compare/run, tools/compare_bank/run and bench/run share: the Rust's files and how they
-# are built. They source it before they go to the repository's root. What they set for it: folder, the
-# root of the Rust repository; what, what is asked for; out, the folder for what is built; and units,
-# where the compiler is not to choose the number of its codegen units.
+# are built. They source it before they go to the repository's root. They set for it:
+#   - folder: the root of the Rust repository
+#   - what: what is asked for
+#   - out: the folder for what is built
+#   - units: the number of codegen units, if the compiler must not choose it
 
 frames=crates/ferrowasp-output/src
 bank=crates/ferrowasp-stm32-critical/src
@@ -17,8 +19,8 @@ has_bank() {
     has_frames "$1" && [ -f "$1/$bank/dshot_bank.rs" ]
 }
 
-# Says so where a file is not that of the commit. What is stored is the commit's, so that --list and
-# --answers then end with status 2.
+# If a file is not that of the commit, says so. What is stored is the commit's. So --list, --answers and
+# --seen-to-fail then end with status 2.
 expect() {
     if [ "$(sha256sum <"$folder/$1" | cut -d ' ' -f 1)" != "$2" ]; then
         echo "this is not $1 of commit 9cb8aca1a6" >&2
