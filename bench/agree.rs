@@ -1,4 +1,4 @@
-//! Whether the two sides give the same numbers, without which they are not measured.
+//! Compares the numbers of the two sides. If they are not the same, nothing is measured.
 
 use crate::spoil::{spoil, spoil_nothing, ANY};
 use crate::{bank_benches, benches, frame_benches};
@@ -23,7 +23,7 @@ pub fn agree() -> bool {
     agree
 }
 
-/// Whether everything is the same, but where a number of the library's is spoiled.
+/// Whether everything is the same, except if a number of the library's is spoiled.
 pub fn seen_to_fail() -> bool {
     let unspoiled = all();
     let mut right = unspoiled.iter().all(|(_, _, same)| *same);

@@ -1,7 +1,7 @@
-//! The cycles of a four-motor bank, either side in a loop of its own: the throttles are renewed, a
-//! service sends a frame set, and its interrupts come. The clock goes on by one a cycle. On both
-//! sides every order to the hardware is looked at, and its number added to a sum: orders that nobody
-//! reads are orders that the compiler leaves out.
+//! The cycles of a four-motor bank, either side in a loop of its own. In a cycle the throttles are
+//! renewed, a service sends a frame set, and its interrupts come. The clock goes on by one a cycle.
+//! On both sides every order to the hardware is looked at, and its number is added to a sum. If
+//! nobody read an order, the compiler would leave it out.
 
 use crate::bank_hardware::{Hardware, Ideal};
 use crate::bank_lanes::{Buffer, Lanes};
@@ -24,9 +24,9 @@ pub struct Cycles {
     pub captures: Vec<u16>,
 }
 
-/// The two buffers, and of each lane the completions, the valid and the invalid replies, those
-/// since the last valid one, and the last speed. Then the bank's frame sets, started and completed,
-/// its faults, and the sum of its orders and of the first duties.
+/// First the two buffers. Then for each lane: the completions, the valid and the invalid replies,
+/// the invalid ones since the last valid one, and the last speed. Then the bank's frame sets,
+/// started and completed, its faults, and the sum of its orders and of the first duties.
 #[derive(Clone, Copy, Debug, Default, Eq, PartialEq)]
 pub struct Left {
     pub buffers: [[Buffer; 4]; 2],
@@ -58,7 +58,7 @@ pub fn original_cycles(cycles: &Cycles, left: &mut Left) {
     let hardware = Ideal::default();
     let lanes = lanes(cycles, current, &hardware);
     let mut bank = DshotBank::from_lanes(lanes, spares.each_mut(), timing(cycles.timing));
-    // Refused where the lanes do not receive.
+    // Refused if the lanes do not receive.
     let _ = bank.enable_bidirectional();
     for (now_ms, throttles) in (0..).zip(&cycles.throttles) {
         let _ = bank.command_throttles(*throttles, now_ms, LEASE_MS);
@@ -72,8 +72,8 @@ pub fn original_cycles(cycles: &Cycles, left: &mut Left) {
     left.buffers = *unsafe { Box::from_raw(buffers) };
 }
 
-/// The same, with each call of the bank a call of its own: a host's loop and its interrupt handlers
-/// do not see into each other.
+/// The same, with each call of the bank in a function that is not inlined. A host's loop and its
+/// interrupt handlers do not see into each other.
 #[inline(never)]
 pub fn original_calls<H: Hardware>(cycles: &Cycles, left: &mut Left) {
     let buffers = Box::into_raw(Box::new(left.buffers));
@@ -178,7 +178,8 @@ extern "C" {
     ) -> u32;
 }
 
-/// A refusal leaves everything as it was, which is compared.
+/// The returned number is not looked at. A refusal leaves everything as it was, and the comparison
+/// shows that.
 #[inline(never)]
 pub fn library_cycles(cycles: &Cycles, left: &mut Left) {
     let [arr, zero, one, sample] = cycles.timing;

@@ -1,5 +1,6 @@
-//! The benches on the cycles of a bank. In a cycle the second has more than the third: four more
-//! interrupts, the lanes turned twice, and four absent windows that are decoded and counted.
+//! The benches on the cycles of a bank. A cycle of the second bench does more than one of the
+//! third. It has four more interrupts, turns the lanes twice, and decodes and counts four absent
+//! windows.
 
 use crate::agree::Agreed;
 use crate::bank::{library_cycles, original_calls, original_cycles, Cycles, Left};
@@ -14,7 +15,7 @@ use std::rc::Rc;
 #[derive(Clone, Copy)]
 struct Sides(fn(&Cycles, &mut Left), fn(&Cycles, &mut Left));
 
-/// In a loop of each side's own, or each call of the bank by itself, from the driver.
+/// Either a loop of each side's own, or each call of the bank by itself, from the driver.
 const LOOPS: Sides = Sides(original_cycles, library_cycles);
 const CALLS: Sides = Sides(original_calls::<Registers>, bank_calls::measured);
 
@@ -70,7 +71,7 @@ fn same(cycles: &Cycles, Sides(original_side, library_side): Sides) -> bool {
     original == library && whole(cycles, &original)
 }
 
-/// Every frame set was sent and done, and every reply that was there read as a speed.
+/// Every frame set was sent and completed, and every reply that was there was read as a speed.
 fn whole(cycles: &Cycles, left: &Left) -> bool {
     let all = cycles.throttles.len() as u32;
     let decoded = if cycles.bidirectional { all - 1 } else { 0 };

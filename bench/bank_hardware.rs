@@ -12,14 +12,14 @@ pub trait Hardware: Default {
     /// Whether every lane turned to receive, and whether every lane turned back.
     fn turned(&self) -> u16;
     fn turned_back(&self) -> u16;
-    /// An order's number, a first duty, or the number of an event that is none of the usual.
+    /// An order's number, a first duty, or the number of an unusual event.
     fn obey(&self, number: u32);
-    /// The sum of all these, where it is kept.
+    /// The sum of all these, if it is kept.
     fn sum(&self) -> u32;
 }
 
-/// The compiler sees what is answered. Orders are added up: those that nobody looks at would be
-/// left out.
+/// The compiler sees what is answered. Orders are added up. If nobody looked at an order, the
+/// compiler would leave it out.
 #[derive(Default)]
 pub struct Ideal {
     sum: Cell<u32>,
@@ -55,8 +55,8 @@ impl Hardware for Ideal {
     }
 }
 
-/// Answers are read from registers and orders written to one: the compiler neither knows an answer
-/// beforehand nor leaves out an order.
+/// Answers are read from registers, and orders are written to one. So the compiler neither knows an
+/// answer beforehand nor leaves out an order.
 pub struct Registers {
     complete: [Register; 4],
     failed: [Register; 4],

@@ -11,11 +11,11 @@ use ferrowasp_output::dshot_reply::{reply_transitions_for, REPLY_WINDOW_SAMPLES}
 
 const CYCLES: usize = 128;
 
-/// Samples of the about 30 us until an ESC answers.
+/// Samples until an ESC answers, which takes about 30 us.
 const LEAD: usize = 68;
 
-/// A bidirectional bank. Its captures are jittered replies with a speed each, with the port's other
-/// pins at random.
+/// A bidirectional bank. Its captures are jittered replies, each with a speed. The port's other
+/// pins are at random.
 pub fn cycles(present: bool) -> Cycles {
     let mut random = Random::new(8);
     let throttle = |random: &mut Random| 1 + random.below(2000) as u16;
@@ -33,7 +33,7 @@ pub fn cycles(present: bool) -> Cycles {
     }
 }
 
-/// Periods of nine bits whose highest is set, shifted left by up to 6: from 256 us on.
+/// Periods of nine bits with the highest set, shifted left by up to 6. The shortest is 256 us.
 fn window(random: &mut Random) -> Vec<u16> {
     let period = 256 + random.below(256);
     let value = period + 512 * random.below(7);

@@ -1,5 +1,5 @@
-//! The lanes of the source's bank, over some hardware. They have four captures for every cycle, one
-//! behind the other.
+//! The lanes of the source's bank, over some hardware. They have four captures for every cycle. The
+//! captures stand one behind the other.
 
 use crate::bank_hardware::Hardware;
 use dshot_bank::{DshotLanes, DshotMotor};

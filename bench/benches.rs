@@ -19,8 +19,8 @@ pub struct Bench {
     pub sides: [Box<dyn Fn()>; 2],
 }
 
-/// A pass gives every input and takes every answer through `black_box`, so that no call can be
-/// left out or worked out beforehand. The slots are those that the library writes into.
+/// A pass gives every input and takes every answer through `black_box`. So the compiler can neither
+/// leave out a call nor work it out beforehand. The library writes into the slots.
 pub fn pass<T: 'static, S: Copy + 'static, A>(
     inputs: &Rc<[T]>,
     slots: S,
@@ -71,8 +71,8 @@ fn decodings(name: &'static str, words: Vec<u32>) -> Bench {
     }
 }
 
-/// A word a call, each side as it is offered to a caller. On both the value ends up in the caller's
-/// slot and the refusal in a number.
+/// One call for each word, each side as it is offered to a caller. On both sides the value ends up
+/// in the caller's slot, and the refusal in a number.
 fn single_decodings(name: &'static str, words: Vec<u32>) -> Bench {
     let words: Rc<[u32]> = Rc::from(words);
     let original = |word: &u32, slot: &mut [u16; 1]| match original_decode_gcr(*word) {

@@ -1,6 +1,6 @@
-//! The calls on replies that are measured, each side through one function that is not inlined. The
-//! library writes into slots that its host keeps and lends again and again; the source returns its
-//! answer.
+//! The calls on replies that are measured. Each side goes through one function that is not inlined.
+//! The library writes into slots that its host keeps and lends again and again. The source returns
+//! its answer.
 
 use crate::exports::kuzhenga_decode_sampled_reply;
 use ferrowasp_output::dshot_reply::{self, DshotReply, DshotReplyError};
@@ -27,8 +27,8 @@ extern "C" {
 }
 
 /// The sum of what the words decode to: a value as it is, a refusal's number above sixteen bits. A
-/// call of few nanoseconds is repeated in a loop of each side's own, so that the way from this
-/// program to the library is not what is measured.
+/// call takes few nanoseconds, so each side repeats it in a loop of its own. If not, the way from
+/// this program to the library would be measured.
 #[inline(never)]
 pub fn original_decode(words: &[u32]) -> u32 {
     let packed = |&word: &u32| match dshot_reply::decode_gcr(word) {

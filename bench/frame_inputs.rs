@@ -8,7 +8,7 @@ const SETS: usize = 512;
 /// DShot600 on a timer of 168 MHz.
 pub const CLOCKS: (u32, u32) = (168_000_000, 600_000);
 
-/// Values of eleven bits; no lane is asked for telemetry, or one of the four.
+/// Values of eleven bits. No lane is asked for telemetry, or one of the four is.
 pub fn sets() -> Vec<Set> {
     let mut random = Random::new(6);
     let set = |_| Set {

@@ -1,5 +1,5 @@
-//! The frames of four motors as a bank sends them, their packets and a sequence of each: either
-//! side in one function, and in five calls.
+//! The frames of four motors as a bank sends them: their packets, and a sequence of each. Either
+//! side makes them in one function, and in five calls.
 
 use crate::exports::{kuzhenga_encode_compare_sequence, kuzhenga_four_motor_bidirectional_packets};
 use crate::spoil::{self, FRAMES};
@@ -26,7 +26,7 @@ pub struct Sequences {
 }
 
 impl Sequences {
-    /// The library's, with the refusal before them, on the way to the comparison.
+    /// The library's, with the refusal before them, before they are compared.
     pub fn pass(&mut self, refusal: &mut u32) {
         spoil::pass(FRAMES, refusal, &mut self.firsts);
         spoil::pass_part(FRAMES, 5, self.slots.as_flattened_mut());

@@ -1,5 +1,5 @@
 //! What is measured of replies: windows of 160 samples, and words. Each set has many different
-//! ones, so that a branch predictor cannot foresee them.
+//! ones, so a branch predictor cannot foresee them.
 
 use crate::captures::{clean, exact, levels, noisy, Ending};
 use crate::random::Random;

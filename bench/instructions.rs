@@ -1,5 +1,5 @@
-//! Instructions of a call. This program runs itself under valgrind, once for some passes of one
-//! side and once for none; the difference belongs to those passes, loop and wrapper included.
+//! Instructions of a call. This program runs itself under valgrind, once with some passes of one
+//! side and once with none. The difference belongs to those passes, loop and wrapper included.
 
 use crate::benches::Bench;
 use std::env;

@@ -1,5 +1,6 @@
-//! Measures the library, through its archive, and the source it is ported from. Prints a row a
-//! bench: nanoseconds and instructions of a call for both, and the library's over the original's.
+//! Measures the library, through its archive, and the source that it is ported from. Prints one row
+//! for each bench: nanoseconds and instructions of a call on both sides, and the ratio of the
+//! library's to the original's.
 
 mod agree;
 mod bank;
@@ -62,8 +63,8 @@ fn all() -> Vec<Bench> {
         .collect()
 }
 
-/// Without numbers it prints the table. It gets numbers where it runs itself: a bench to time, or a
-/// bench, a side and how many passes to make.
+/// Without numbers it prints the table. If it runs itself, it gives itself numbers: a bench to
+/// time, or a bench, a side and how many passes to make.
 fn main() -> ExitCode {
     let words: Vec<String> = std::env::args().skip(1).collect();
     if words == ["--seen-to-fail"] {

@@ -1,6 +1,6 @@
 //! Nanoseconds of a call: the least of many passes, divided by the calls in one. The two sides take
-//! turns, so that both meet the same disturbances. A process can be slow as a whole, so that no
-//! number of passes in it helps; therefore the passes are spread over several.
+//! turns, so both meet the same disturbances. A process can be slow as a whole, and then more
+//! passes in it do not help. Therefore the passes are spread over several processes.
 
 use crate::benches::Bench;
 use std::env;
