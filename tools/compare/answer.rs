@@ -3,8 +3,8 @@
 /// What a slot holds before a call. A refused call leaves it there.
 pub const UNTOUCHED: u16 = 43690;
 
-/// A refusal's number, 0 for done, and the slots after the call. A call is lent the first one, two
-/// or three of them; the rest show that it wrote no further.
+/// A refusal's number or 0 for done, and the slots after the call. A call is lent the first one,
+/// two or three of them. The rest show that it wrote no further.
 #[derive(Clone, Copy, Debug, Eq, PartialEq)]
 pub struct Answer {
     pub refusal: u32,
@@ -37,7 +37,7 @@ impl Answer {
         Self::done(&[kind, number as u16, (number >> 16) as u16])
     }
 
-    /// The 32-bit number whose low half is in the slot `at`; 0 where there is none.
+    /// The 32-bit number whose low half is in the slot `at`. If the call was refused, 0.
     fn number_at(&self, at: usize) -> u32 {
         match self.refusal {
             0 => u32::from(self.slots[at]) | u32::from(self.slots[at + 1]) << 16,

@@ -1,11 +1,11 @@
-//! One capture put to both sides: its word, and its reading with EDT off and on.
+//! Puts one capture to both sides: its word, and its reading with EDT off and on.
 
 use crate::checks::against;
 use crate::library::{self, READING, WORD};
 use crate::tally::Tally;
 use crate::{original, records};
 
-/// The call on which the two sides differ, a reading with its EDT flag.
+/// The call on which the two sides differ. A reading has its EDT flag.
 enum Call {
     Word,
     Reading(u32),
@@ -20,12 +20,13 @@ fn differs(samples: &[u16], mask: u32) -> Option<Call> {
         let right = original::decode_sampled_reply(samples, mask, *edt);
         library::decode_sampled_reply(samples, mask, *edt, READING) != right
     };
-    // Every number but 0 is yes, so another bit of it is set at each length.
+    // Every number except 0 is yes, so another bit of it is set at each length.
     let on = 1 << (samples.len() % 32);
     [0, on].into_iter().find(other).map(Call::Reading)
 }
 
-/// Counts the capture once. Gives whether the source takes it as some value's reply, 11 included.
+/// Counts the capture once. Says whether the source takes it as some value's reply, also if that
+/// reply is refused with 11 (zero period).
 pub fn capture(tally: &mut Tally, samples: &[u16], mask: u32) -> bool {
     let refusal = original::decode_sampled_reply(samples, mask, 0).refusal;
     let found = differs(samples, mask);
@@ -40,8 +41,8 @@ pub fn capture(tally: &mut Tally, samples: &[u16], mask: u32) -> bool {
     refusal == 0 || refusal == 11
 }
 
-/// A capture that is easier to read and on which the two sides still differ, if they do so for the
-/// same reason: without noise on other pins, and with fewer samples at both ends.
+/// A capture that is easier to read and on which the two sides still differ. It has no noise on
+/// other pins, and fewer samples at both ends, if the two sides differ without them.
 fn shrunk(samples: &[u16], mask: u32) -> Vec<u16> {
     let pins = |sample: &u16| {
         if sample & mask as u16 == 0 {

@@ -13,7 +13,7 @@ use crate::tally::Tally;
 const VALUES: u32 = 4096;
 const MASKS: [u32; 4] = [1, 0x8000, 0x0ff0, 0xffff];
 
-/// The simulated ESC's captures, every slot of them, and then the same buffers as both readers see
+/// First every slot of the simulated ESC's captures. Then the same buffers as both readers see
 /// them.
 pub fn simulated() -> [Tally; 2] {
     let mut written = Tally::new("4 simulate_reply, against a plain construction, every slot");
@@ -22,8 +22,8 @@ pub fn simulated() -> [Tally; 2] {
         for length in [lead + READ, lead + READ + 1, 160, 200] {
             for mask in MASKS {
                 for value in 0..VALUES {
-                    // The low 12 bits of a value count, and the low 16 of a mask: after a lead
-                    // others are set too.
+                    // The low 12 bits of a value count, and the low 16 of a mask. If there is a
+                    // lead, other bits are set too.
                     let (value, mask) = match lead {
                         0 => (value, mask),
                         _ => (value | value << 12, mask | mask << 16),
@@ -43,7 +43,7 @@ pub fn simulated_edges() -> Tally {
     let top = usize::MAX;
     let huge = [top / 2, top - 69, top - 68, top - 67, top - 1, top];
     for lead in [0, 1, 10, 85, 331].into_iter().chain(huge) {
-        // What a wrapped sum would ask for, where it does not fit.
+        // If the sum does not fit, this is what a wrapped sum would ask for.
         let least = lead.wrapping_add(READ) % 1024;
         let near = [least.saturating_sub(1), least, least + 1];
         for length in [0, 1, 57, 68, 69, 70, 160].into_iter().chain(near) {
@@ -57,7 +57,7 @@ pub fn simulated_edges() -> Tally {
     tally
 }
 
-/// Jitter may carry the last edges out of what is read, and some captures end early: such a capture
+/// Jitter may carry the last edges out of what is read, and some captures end early. Such a capture
 /// renders nothing, but the two sides must still agree on it.
 pub fn jittered() -> Tally {
     let mut tally = Tally::new("5 jittered captures of all values");
@@ -127,7 +127,7 @@ pub fn moved() -> [Tally; 2] {
     let mut taken = [0; 2];
     for word in (0..VALUES).map(reply_transitions_for) {
         for word in moves::moved(word) {
-            // A move keeps the number of runs, which is even: the last one is high.
+            // A move keeps the number of runs. It is even, so the last run is high.
             let samples = exact(word, Ending::Closed);
             taken[0] += u64::from(capture(&mut exactly, &samples, 1));
             let samples = jittered_rendering(word, Ending::Closed, &mut random);

@@ -5,7 +5,7 @@ use crate::random::Random;
 /// Samples that a reply bit lasts.
 pub const BIT: usize = 3;
 
-/// Samples that a start needs from itself on, and how many are read from there on at most.
+/// How many samples a start needs from itself on, and how many are read from there at most.
 pub const ROOM: usize = 19 * BIT;
 pub const READ: usize = 23 * BIT;
 
@@ -16,7 +16,7 @@ pub enum Ending {
     Open,
 }
 
-/// The bits of each run of a word: a 1 starts a run, and bit 20, the start edge, the first.
+/// The bits of each run of a word. A 1 starts a run. Bit 20, the start edge, starts the first.
 pub fn runs(word: u32) -> Vec<usize> {
     let mut runs: Vec<usize> = Vec::new();
     for place in (0..21).rev() {
@@ -33,14 +33,14 @@ pub fn exact(word: u32) -> Vec<usize> {
     runs(word).iter().map(|bits| BIT * bits).collect()
 }
 
-/// The same, each run a sample short, right or a sample long. The last one counts only where it
+/// The same, with each run a sample short, right or a sample long. The last run counts only if it
 /// closes.
 pub fn jittered(word: u32, random: &mut Random) -> Vec<usize> {
     let off = |bits: &usize| BIT * bits + random.below(3) - 1;
     runs(word).iter().map(off).collect()
 }
 
-/// A lead of high samples, the runs, and the ending, as a capture of `length` samples, which may
+/// A capture of `length` samples: a lead of high samples, the runs, and the ending. The length may
 /// cut it short.
 pub fn levels(lead: usize, times: &[usize], ending: Ending, length: usize) -> Vec<bool> {
     let mut levels = vec![true; lead];
@@ -59,7 +59,7 @@ pub fn clean(levels: &[bool], mask: u16) -> Vec<u16> {
     levels.iter().map(sample).collect()
 }
 
-/// Samples of a whole port: the other pins are at random, and of the mask's pins any may be high.
+/// Samples of a whole port. The other pins are at random, and any of the mask's pins may be high.
 pub fn noisy(levels: &[bool], mask: u16, random: &mut Random) -> Vec<u16> {
     let sample = |&level: &bool| {
         let number = random.word();

@@ -1,5 +1,5 @@
-//! One input put to both sides. An input that differs is described by its record of the stored
-//! list, which has the right answer, and by what the library gave.
+//! Puts one input to both sides. If the answers differ, the input is described by its record of the
+//! stored list and by what the library gave. The record has the right answer.
 
 use crate::answer::{Answer, UNTOUCHED};
 use crate::library::{self, BEHIND, READING, VALUE};

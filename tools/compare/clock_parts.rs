@@ -7,7 +7,7 @@ use crate::random::Random;
 use crate::tally::Tally;
 use crate::threads;
 
-/// Every limit with every other.
+/// Every limit together with every other.
 pub fn limits() -> Tally {
     let mut tally = Tally::new("12 from_clocks, all pairs of limits");
     let limits = clocks::limits();

@@ -4,8 +4,8 @@ use crate::random::Random;
 
 pub const DSHOT_RATES: [u32; 4] = [150_000, 300_000, 600_000, 1_200_000];
 
-/// Numbers at which a clock or a rate may be taken for another: small ones, and those about powers
-/// of 2.
+/// Numbers at which a clock or a rate may be taken for another: small numbers, and numbers near
+/// powers of 2.
 pub fn limits() -> Vec<u32> {
     let powers = [15, 16, 17, 24, 30, 31, 32].map(|power| 1u64 << power);
     let near = powers.into_iter().flat_map(|power| power - 3..=power + 3);
@@ -18,7 +18,7 @@ fn any(random: &mut Random) -> u32 {
     random.word() >> random.below(32)
 }
 
-/// A clock of a few ticks more or less, if there is such a one.
+/// A clock of a few ticks more or less, if there is one.
 fn near(clock: u64, random: &mut Random) -> u32 {
     let near = clock
         .saturating_add(random.below(7) as u64)

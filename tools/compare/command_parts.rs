@@ -7,7 +7,7 @@ use crate::plain_frames;
 use crate::random::Random;
 use crate::tally::Tally;
 
-/// A wide throttle counts as 2000, whatever its low bits.
+/// A throttle wider than 16 bits counts as 2000, whatever its low bits are.
 pub fn throttles() -> Tally {
     let mut tally = Tally::new("16 throttles, all of 16 bits, wide ones, and four at a time");
     let mut random = Random::new(20);
@@ -27,7 +27,7 @@ pub fn throttles() -> Tally {
     tally
 }
 
-/// 300 steps of each run, with the source's own run beside it: 20 give a command.
+/// 300 steps of each run, with the source's own run beside it. Of these steps 20 give a command.
 pub fn runs() -> Tally {
     let mut tally = Tally::new("17 runs of commands, 300 steps each, beside the source's");
     let (mut given, directions) = (0, [0, 1, 2, 1 << 31, u32::MAX]);
@@ -43,7 +43,8 @@ pub fn runs() -> Tally {
             );
             given += u64::from(command.is_some());
             frame(&mut tally, Call::NextValue(before));
-            // The step above is held to the plain one, which is held to the source's here.
+            // The step above is compared with the plain one. Here that is compared with the
+            // source's.
             let same = plain_frames::next_value(before) == right;
             tally.compare(0, same, step, || format!("plain step of {before:?}"));
         }
@@ -61,8 +62,8 @@ pub fn other_runs() -> Tally {
             let [direction, save] = [(); 2].map(|()| random.word() as u16);
             let run = [direction, save, index, repeats_left];
             frame(&mut tally, Call::NextValue(run));
-            // A slot holds more than a byte: such an index is past the end, of such a count the
-            // low byte counts.
+            // A slot holds more than a byte. If an index is that large, it is past the end. If a
+            // count is, its low byte counts.
             let [index, repeats_left] =
                 [index, repeats_left].map(|byte| random.word() as u16 & !255 | byte);
             let run = [direction, save, index % 3, repeats_left];
@@ -76,7 +77,7 @@ pub fn other_runs() -> Tally {
     tally
 }
 
-/// Clocks about 0, where they wrap, and about where a narrower clock would.
+/// Clocks near 0, where they wrap, and near where a narrower clock would wrap.
 const CLOCKS: [u64; 9] = [
     0,
     1,

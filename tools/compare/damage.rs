@@ -1,4 +1,4 @@
-//! Words of which one symbol is damaged, and how a capture of them may end.
+//! Words with one damaged symbol, and how a capture of them may end.
 
 use crate::captures::{runs, Ending};
 
@@ -8,8 +8,8 @@ pub fn damaged(word: u32) -> impl Iterator<Item = u32> {
     (0..4).flat_map(change)
 }
 
-/// A last run that is high goes on, and so has one ending; a low one, where the runs are odd in
-/// number, has two.
+/// If the last run is high, it goes on and has one ending. If it is low, the number of runs is odd,
+/// and it has two endings.
 pub fn endings(word: u32) -> &'static [Ending] {
     match runs(word).len() % 2 {
         0 => &[Ending::Closed],

@@ -1,5 +1,5 @@
 //! The archive's functions, as crates/kuzhenga exports them. Nothing checks these lines against the
-//! library, so they stand here once, for the comparison and for the bench.
+//! library. So they stand here only once, for the comparison and for the bench.
 
 extern "C" {
     pub fn kuzhenga_reply_transitions_for(value: u32) -> u32;

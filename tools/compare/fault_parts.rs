@@ -1,4 +1,4 @@
-//! Part 15: sequences of which some numbers are wrong.
+//! Part 15: sequences with some wrong numbers.
 
 use crate::frame_call::Call;
 use crate::frame_check::frame;
@@ -7,7 +7,7 @@ use crate::random::Random;
 use crate::tally::Tally;
 use crate::timings::{self, EQUAL, ODD};
 
-/// A word of which the checksum is plain, inverted or any.
+/// A word whose checksum is plain, inverted or any.
 fn word(random: &mut Random) -> u32 {
     let (value, telemetry) = (random.word(), random.below(2) as u32);
     match random.below(3) {
@@ -17,7 +17,7 @@ fn word(random: &mut Random) -> u32 {
     }
 }
 
-/// DShot600's, an odd one, or any. Few have equal high times.
+/// The timing of DShot600, an odd one, or any. Few have equal high times.
 fn timing(random: &mut Random) -> [u16; 4] {
     match random.below(8) {
         0..=3 => timings::dshot600(),
@@ -40,8 +40,8 @@ fn duty(timing: &[u16; 4], random: &mut Random) -> u16 {
     }
 }
 
-/// One of the 17 numbers of each sequence is another, and then a second and a third too, and at
-/// last the first duty is too wide.
+/// First one of the 17 numbers of each sequence is wrong. Then a second and a third are wrong too.
+/// Last, the first duty is too wide.
 pub fn faults() -> Tally {
     let mut tally = Tally::new("15 read_compare_sequence, sequences with faults");
     let mut random = Random::new(18);
@@ -64,7 +64,7 @@ pub fn faults() -> Tally {
     tally
 }
 
-/// All four bits of the checksum are the other way: then it is of the other kind.
+/// All four bits of the checksum are turned over, so it is of the other kind.
 pub fn other_checksums() -> Tally {
     let mut tally = Tally::new("15 read_compare_sequence, checksums with each change");
     let timing = timings::dshot600();

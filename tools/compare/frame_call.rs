@@ -1,5 +1,5 @@
-//! A call on frames with its arguments, and what it leaves: one form for the source, the library
-//! and the stored list.
+//! A call on frames with its arguments, and what it leaves. The source, the library and the stored
+//! list have this one form.
 
 use crate::answer::UNTOUCHED;
 
@@ -9,7 +9,7 @@ pub const ROOM: usize = 32;
 pub type Buffer = [u16; ROOM];
 
 /// The numbers are as wide as the library takes them. A timing is its four slots, and so is a run
-/// of commands. Of a lane `usize::MAX` is none.
+/// of commands. The lane `usize::MAX` means no lane.
 #[derive(Clone, Copy, Debug)]
 pub enum Call {
     FromValue(u32, u32),
@@ -30,8 +30,8 @@ pub enum Call {
     ReadSequence(u32, [u16; 16], [u16; 4]),
 }
 
-/// What a call returned, and every buffer that it was lent, in their order. A call that is lent
-/// none returns its answer; any other a refusal's number, or 0.
+/// What a call returned, and every buffer that it was lent, in their order. If a call is lent no
+/// buffer, it returns its answer. If it is lent one, it returns a refusal's number or 0.
 #[derive(Clone, Copy, Eq, PartialEq)]
 pub struct Left {
     pub returned: u32,
@@ -60,7 +60,7 @@ impl Call {
         }
     }
 
-    /// The buffers before the call, and after it where it is refused.
+    /// The buffers before the call, and also after it if it is refused.
     pub fn before(&self) -> Left {
         let mut buffers = [[UNTOUCHED; ROOM]; 3];
         let [first, second, _] = &mut buffers;

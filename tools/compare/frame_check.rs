@@ -1,4 +1,4 @@
-//! One call on frames put to both sides: what it returns, and every slot that it is lent.
+//! Puts one call on frames to both sides: what it returns, and every slot that it is lent.
 
 use crate::answer::UNTOUCHED;
 use crate::frame_call::{Call, Left};
@@ -23,7 +23,7 @@ pub fn lent(tally: &mut Tally, call: Call, lengths: &[usize]) -> Left {
     if given == right {
         tally.compare(refusal, true, 0, String::new);
     } else {
-        // The shorter its text is, the simpler is the input.
+        // An input with a shorter text is simpler.
         let text = describe(&call, lengths, &given);
         tally.compare(refusal, false, text.len(), || text);
     }

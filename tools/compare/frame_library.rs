@@ -1,5 +1,5 @@
 //! The library's calls on frames, through its archive. The callers say how many slots each buffer
-//! has, which they set wrong on purpose where they test for refusal 13.
+//! has. If they test for refusal 13 (wrong length), they say a wrong number on purpose.
 
 use crate::exports::*;
 use crate::frame_call::{Buffer, Call, Left};

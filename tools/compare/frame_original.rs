@@ -12,7 +12,7 @@ pub fn bidirectional(value: u32, telemetry: u32) -> u16 {
     DshotPacket::from_value_bidirectional(value as u16, telemetry != 0).0
 }
 
-/// A value that the source's type has no room for is above 2047, too.
+/// If the source's type has no room for a value, the value is above 2047 too.
 pub fn try_from_value(value: u32, telemetry: u32) -> Result<[u16; 1], u32> {
     let value = u16::try_from(value).unwrap_or(u16::MAX);
     match DshotPacket::try_from_value(value, telemetry != 0) {
@@ -21,8 +21,7 @@ pub fn try_from_value(value: u32, telemetry: u32) -> Result<[u16; 1], u32> {
     }
 }
 
-/// The library has no lane of its own for none: any above 3 will do, and `usize::MAX` stands for
-/// it here.
+/// For no lane the library takes any number above 3. Here `usize::MAX` stands for it.
 fn telemetry_lane(lane: usize) -> Option<usize> {
     (lane != usize::MAX).then_some(lane)
 }
@@ -77,7 +76,7 @@ pub fn encode_sequence(packet: u32, timing: [u16; 4]) -> (u16, [u16; 16]) {
     (first, slots)
 }
 
-/// A throttle that the source's type has no room for counts as 2000, too.
+/// If the source's type has no room for a throttle, it counts as 2000 too.
 pub fn throttle(value: u32) -> u16 {
     dshot::throttle_to_dshot(u16::try_from(value).unwrap_or(u16::MAX))
 }
@@ -90,7 +89,7 @@ pub fn spin_direction(reversed: u32) -> DshotCommandSequence {
     DshotCommandSequence::spin_direction(reversed != 0)
 }
 
-/// A run's fields, which are private: its text for the debugger has their four numbers.
+/// A run's fields. They are private, but its text for the debugger has their four numbers.
 pub fn fields(sequence: &DshotCommandSequence) -> [u16; 4] {
     let text = format!("{sequence:?}");
     let words = text.split(|letter: char| !letter.is_ascii_digit());

@@ -1,4 +1,4 @@
-//! One line of the stored list for each kind of record on frames, with the right answer. Where a
+//! One line of the stored list for each kind of record on frames, with the right answer. If a
 //! comparison fails, such a line names its input.
 
 use crate::frame_call::{Call, Left};
@@ -9,7 +9,7 @@ fn listed(numbers: &[u16]) -> String {
     numbers.iter().map(|number| format!(" {number}")).collect()
 }
 
-/// The slots of an answer, which are 0 where a refusal leaves them out.
+/// The slots of an answer. If a refusal leaves them out, they are 0.
 fn answered(refusal: u32, slots: &[u16]) -> String {
     match refusal {
         0 => format!(" 0{}", listed(slots)),

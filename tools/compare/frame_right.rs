@@ -1,5 +1,5 @@
-//! The right answer of a call on frames: the source's, and for the readers and any run of commands
-//! that of a plain construction.
+//! The right answer of a call on frames. It is the source's. For the readers and for any run of
+//! commands it is that of a plain construction.
 
 use crate::frame_call::{put, Buffer, Call, Left};
 use crate::{frame_original as original, plain_frames as plain};
@@ -54,7 +54,7 @@ fn done(call: &Call, [first, second, third]: &mut [Buffer; 3]) -> u32 {
     }
 }
 
-/// The refusal's number, or 0 and the slots filled.
+/// The refusal's number; or 0, with the slots filled.
 fn filled<const N: usize>(buffer: &mut Buffer, answer: Result<[u16; N], u32>) -> u32 {
     match answer {
         Ok(slots) => {

@@ -1,5 +1,5 @@
-//! Part 19: buffers of a wrong length, which only the library can be lent. Each call answers 13,
-//! before any other refusal, and writes nothing.
+//! Part 19: buffers of a wrong length, which only the library can be lent. Each call answers 13
+//! (wrong length), before any other refusal, and writes nothing.
 
 use crate::frame_call::Call;
 use crate::frame_check::lent;
@@ -48,7 +48,7 @@ fn refused() -> [Call; 10] {
     ]
 }
 
-/// Each buffer is of every wrong length, alone and with all of the others.
+/// Each buffer has every wrong length, by itself and together with all others.
 pub fn wrong_lengths() -> Tally {
     let mut tally = Tally::new("19 buffers of a wrong length");
     for call in taken().into_iter().chain(refused()) {

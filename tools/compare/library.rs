@@ -1,5 +1,5 @@
-//! The library's calls, through its archive. Each says how many slots it lends, which the callers
-//! set wrong on purpose where they test for refusal 13.
+//! The library's calls, through its archive. Each says how many slots it lends. If the callers test
+//! for refusal 13 (wrong length), they give a wrong number on purpose.
 
 use crate::answer::{Answer, UNTOUCHED};
 use crate::exports::*;
@@ -19,7 +19,7 @@ fn lent(kind: usize, slots: usize, call: impl FnOnce(*mut u16) -> u32) -> Answer
     answer
 }
 
-/// An empty capture has no address, as a host in C would have it.
+/// An empty capture has no address, as from a host in C.
 fn address(samples: &[u16]) -> *const u16 {
     match samples.len() {
         0 => std::ptr::null(),

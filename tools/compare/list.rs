@@ -1,18 +1,18 @@
 //! Writes the stored list that a test program replays: one record a line, numbers in decimal.
 //!
 //! Kinds 1 to 5, 8 to 19 and 23 hold the source's answers. Kinds 6, 7 and 20 to 22, and each
-//! refusal 13, hold those of document 01's sentences, since the source cannot be asked: it has no
-//! simulated ESC (6, 7) and no readers (20, 21), it makes two runs of commands and no others (22),
-//! and its buffers have the right length by their type (13). At a count of 0 the sentences leave a
-//! step free; there kind 22 holds this port's choice, a byte that wraps. The last records are wrong on
-//! purpose.
+//! refusal 13 (wrong length), hold those of document 01's sentences. There the source cannot be
+//! asked. It has no simulated ESC (6, 7) and no readers (20, 21). It makes only two runs of
+//! commands (22). Its buffers have the right length by their type (refusal 13). At a count of 0 the
+//! sentences leave a step free. There kind 22 holds this port's choice, a byte that wraps. The last
+//! records are wrong on purpose.
 //!
 //! This program is not linked with the library, so no answer of the library can get into the list.
 
 mod answer;
 mod captures;
 mod damage;
-// The list has no first state of a run alone, and no duty of one bit.
+// The list has no first state of a run by itself, and no duty of one bit.
 #[allow(dead_code)]
 mod frame_call;
 mod frame_original;

@@ -9,7 +9,7 @@ use crate::records;
 /// A window's samples.
 const WINDOW: usize = 160;
 
-/// Longer than any reading: a run of so many samples does not end.
+/// More samples than are ever read: a run of so many does not end.
 const ON: usize = 200;
 
 pub fn groups() {
@@ -52,7 +52,7 @@ fn lengths() {
     }
 }
 
-/// So many runs of one bit, and one that does not end.
+/// A number of runs of one bit, and then one run that does not end.
 fn seen(bits: usize) -> Vec<usize> {
     [vec![BIT; bits], vec![ON]].concat()
 }
@@ -114,7 +114,7 @@ fn starts() {
     show(&[1; WINDOW], 1);
 }
 
-/// Value 0 with so many of its runs a sample longer.
+/// Value 0 with a number of its runs a sample longer.
 fn longer(runs: usize) -> Vec<usize> {
     let mut times = exact(reply_transitions_for(0));
     times[..runs].iter_mut().for_each(|run| *run += 1);
@@ -128,7 +128,7 @@ fn last_edges() {
     assert_eq!(show_settings(&longer(9)), 10);
 }
 
-/// The first two damaged words of which the last run is low and has so many bits.
+/// The first two damaged words whose last run is low and has the given number of bits.
 fn ending_low(bits: usize) -> Vec<u32> {
     let all = (0..4096).map(reply_transitions_for).flat_map(damaged);
     let low = all.filter(|word| endings(*word).len() == 2);
@@ -172,7 +172,7 @@ fn replies() {
     }
 }
 
-/// Gives the refusal with EDT off, so that a group's name can be held to it.
+/// Gives the refusal with EDT off. The name of a group is checked against it.
 fn show_settings(times: &[usize]) -> u32 {
     let samples = clean(&levels(10, times, Ending::Closed, WINDOW), 1);
     println!("{}", records::decode_sampled_reply(&samples, 1, 0));

@@ -36,7 +36,8 @@ pub fn groups() {
     halves();
 }
 
-/// Every period of 4 or less is refused with 3, and so are longer ones with too short a sample.
+/// Every period of 4 or less is refused with 3 (period too short). So is a longer one with too
+/// short a sample.
 fn too_short() {
     println!("# periods under 4 ticks: 3");
     for (clock, rate) in [(5, 2), (3499, 1000)] {
@@ -52,7 +53,7 @@ fn too_short() {
     }
 }
 
-/// The source does not say what period it refuses, so that is computed here.
+/// The source does not say which period it refuses, so it is computed here.
 fn refused(clock: u32, rate: u32, period: u32) {
     assert_eq!((clock + rate / 2) / rate, period);
     held(clock, rate, Err(3));
@@ -95,8 +96,7 @@ fn rounded(clock: u32, rate: u32, count: fn([u16; 4]) -> u32, ticks: u32) {
     show(Call::FromClocks(clock, rate));
 }
 
-/// A timing's record. A group's name must not say what its records do not, so the answer is
-/// asserted.
+/// A timing's record. The answer is asserted, so a group's name says only what its records do.
 fn held(clock: u32, rate: u32, answer: Result<(), u32>) {
     assert_eq!(from_clocks(clock, rate).map(|_| ()), answer);
     show(Call::FromClocks(clock, rate));

@@ -22,7 +22,7 @@ pub fn groups() {
     leases();
 }
 
-/// A run of commands: so many steps, of which each gives 1 and a command, or 0 and 0.
+/// A run of commands: a number of steps. Each gives 1 and a command, or 0 and 0.
 pub fn command_run(reversed: u32, steps: usize) -> String {
     let mut run = original::spin_direction(reversed);
     let step = |_| match run.next_value() {
@@ -33,7 +33,7 @@ pub fn command_run(reversed: u32, steps: usize) -> String {
     format!("18 {reversed}{steps}")
 }
 
-/// Both runs of the source have the first two pairs; the others show that any commands are taken.
+/// The source's two runs have the first two pairs. The others show that any commands are taken.
 const COMMANDS: [[u16; 2]; 5] = [[20, 12], [21, 12], [1, 47], [0, 65535], [65535, 0]];
 
 fn steps() {
@@ -81,7 +81,7 @@ fn leases() {
     }
 }
 
-/// A group's name must not say what its records do not, so the answer is asserted.
+/// The answer is asserted, so a group's name says only what its records do.
 fn lease(started: u64, duration: u32, now: u64, expired: bool) {
     assert_eq!(original::lease_expired(started, duration, now), expired);
     show(Call::LeaseExpired(started, duration, now));

@@ -1,5 +1,5 @@
-//! The list's groups of moved edges that are taken: an edge on the border of two symbols goes one
-//! bit late or early, both symbols turn into others, and the checksum still holds.
+//! The list's groups of moved edges that are taken. An edge on the border of two symbols comes one
+//! bit late or early. Both symbols turn into others, and the checksum still holds.
 
 use crate::captures::{clean, exact, levels, Ending};
 use crate::original::{self, reply_transitions_for};
@@ -25,7 +25,7 @@ pub fn groups() {
     }
 }
 
-/// The nibble of a reply at a place from 0, the checksum, to 3.
+/// The nibble of a reply at a place from 0 to 3. Place 0 is the checksum.
 fn nibble(value: u32, place: u32) -> u32 {
     let checksum = !(value ^ value >> 4 ^ value >> 8) & 0xf;
     (value << 4 | checksum) >> (4 * place) & 0xf
@@ -37,7 +37,7 @@ fn holder(border: u32, high: u32, low: u32) -> u32 {
     (0..4096).find(holds).expect("some value has them")
 }
 
-/// The reply of a value, and then the same with the edge at a border on the border's other side.
+/// The reply of a value, and then the same with the edge on the other side of a border.
 fn turn(value: u32, border: u32) {
     let word = reply_transitions_for(value);
     let moved = word ^ 3 << (5 * border + 4);

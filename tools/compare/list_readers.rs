@@ -38,7 +38,7 @@ pub fn groups() {
     faults(packet);
 }
 
-/// A group's name must not say what its records do not, so the refusal is asserted.
+/// The refusal is asserted, so a group's name says only what its records do.
 fn held(call: Call, refusal: u32) {
     assert_eq!(right(&call, call.lengths()).returned, refusal);
     show(call);

@@ -6,7 +6,7 @@ use crate::frame_records::line;
 use crate::list_frames::show;
 use crate::timings::{self, EQUAL, ODD};
 
-/// Words with a bit at either end, all bits, none, and packets of both kinds.
+/// Words with one bit at either end, with all bits, with none, and packets of both kinds.
 pub fn words() -> [u32; 7] {
     let plain = from_value(1046, 1).into();
     let inverted = bidirectional(1046, 0).into();

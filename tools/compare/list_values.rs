@@ -3,7 +3,7 @@
 use crate::original::{self, reply_transitions_for};
 use crate::records;
 
-/// Values of every top nibble, periods of 0 among them.
+/// Values with every top nibble. Among them are periods of 0.
 pub const VALUES: [u32; 22] = [
     0x000, 0x001, 0x0ff, 0x123, 0x200, 0x2a5, 0x3ff, 0x400, 0x4b6, 0x5c7, 0x6d8, 0x7e9, 0x800,
     0x8fa, 0x90b, 0xa1c, 0xb2d, 0xc3e, 0xd4f, 0xe00, 0xeff, 0xfff,
@@ -62,13 +62,12 @@ fn words() {
     }
 }
 
-/// The word with another symbol at a place from 0, the checksum's, to 3.
+/// The word with another symbol at a place from 0 to 3. Place 0 is the checksum's.
 pub fn with_symbol(word: u32, place: u32, symbol: u32) -> u32 {
     word & !(0x1f << (5 * place)) | symbol << (5 * place)
 }
 
-/// The word's record. A group's name must not say what its records do not, so the refusal is
-/// asserted.
+/// The word's record. The refusal is asserted, so a group's name says only what its records do.
 fn refused(word: u32, refusal: u32) {
     assert_eq!(original::decode_gcr(word).refusal, refusal);
     println!("{}", records::decode_gcr(word));

@@ -1,5 +1,6 @@
-//! The list's wrong records: right ones of every kind, each with one number of its answer changed,
-//! and with a comment that says which. Who replays the list must report each of them.
+//! The list's wrong records. They are right records of every kind, each with one number of its
+//! answer changed, and with a comment that says which. A program that replays the list must report
+//! each.
 
 use crate::original::reply_transitions_for;
 use crate::records::{self, runs_of};
@@ -17,8 +18,8 @@ fn show(record: &str, what: &str) {
     println!("{record} # wrong on purpose: the {what}");
 }
 
-/// Shows a record once for each name of a number, with that number's lowest bit turned over. The
-/// named numbers follow each other from a place on; the kind is at place 0.
+/// Writes a record once for each name of a number, with that number's lowest bit turned over. The
+/// named numbers follow each other from a place on. The kind is at place 0.
 pub fn wrong(record: &str, from: usize, names: &[&str]) {
     let words: Vec<&str> = record.split(' ').collect();
     for (place, name) in (from..).zip(names) {
@@ -53,7 +54,7 @@ fn captures() {
     wrong_at_end(&record, &["refusal", "kind", "number"]);
 }
 
-/// The samples are told in runs, so that one sample is changed before it is told.
+/// The samples are written as runs, so one sample is changed before they are written.
 fn simulated() {
     let (length, value, lead, mask) = (71, 0x123, 1, 1);
     let record = records::simulate_reply(length, value, lead, mask);

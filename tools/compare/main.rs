@@ -1,6 +1,7 @@
-//! Compares the library, through its archive, with the source it is ported from, part by part. The
-//! one argument is how many random captures part 8 takes. Exit status 1 if anything differs. Or the
-//! argument is --seen-to-fail: exit status 1 if a wrong answer is not seen.
+//! Compares the library, through its archive, with the source that it is ported from, part by part.
+//! The one argument is how many random captures part 8 takes. If anything differs, the exit status
+//! is 1. If the argument is --seen-to-fail and a wrong answer is not seen, the exit status is 1
+//! too.
 
 mod answer;
 mod capture_check;

@@ -1,5 +1,5 @@
-//! The source's calls on replies, with its enums turned into document 01's numbers. It takes the
-//! wide numbers of the library's calls, of which the source's narrower types keep the low bits.
+//! The source's calls on replies, with its enums turned into document 01's numbers. They take the
+//! wide numbers of the library's calls. The source's narrower types keep their low bits.
 
 use crate::answer::Answer;
 use ferrowasp_output::dshot_reply::{self, DshotReply, DshotReplyError};

@@ -21,7 +21,7 @@ pub fn packets() -> Tally {
     tally
 }
 
-/// Of a wide value the low 11 bits count, or it is refused; every flag but 0 is yes.
+/// The low 11 bits of a wide value count, or it is refused. Every flag except 0 is yes.
 pub fn wide_packets() -> Tally {
     let mut tally = Tally::new("10 packets of wide values");
     let mut random = Random::new(10);
@@ -35,7 +35,7 @@ pub fn wide_packets() -> Tally {
     tally
 }
 
-/// Lanes whose low bits are those of a lane mark none, and `usize::MAX` stands for none.
+/// A lane above 3 marks no packet, whatever its low bits are. `usize::MAX` stands for no lane.
 const LANES: [usize; 11] = [
     0,
     1,
@@ -67,7 +67,7 @@ pub fn four_motors() -> Tally {
 /// Every packet of both kinds, as a word of sixteen bits.
 const PACKETS: u64 = 2 * 2 * 2048;
 
-/// The source reads no packet: what a word says is that of which the source makes it.
+/// The source reads no packet. A word says what the source makes it from.
 pub fn words() -> Tally {
     let mut tally = Tally::new("11 read_packet, all words, against the packets of the source");
     let mut read = 0;
@@ -79,7 +79,7 @@ pub fn words() -> Tally {
     tally
 }
 
-/// A wide word is no packet, even where its low sixteen bits are one.
+/// A wide word is no packet, even if its low sixteen bits are one.
 pub fn wide_words() -> Tally {
     let mut tally = Tally::new("11 read_packet, wide words, most of them above a packet");
     let mut random = Random::new(12);

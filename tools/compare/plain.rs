@@ -1,11 +1,11 @@
-//! The simulated ESC, written out plainly from document 01's sentences: the source has none, so
+//! The simulated ESC, written out plainly from document 01's sentences. The source has none, so
 //! there is nothing else to compare the library's with.
 
 use crate::answer::{Answer, UNTOUCHED};
 use crate::captures::{clean, exact, levels, Ending, READ};
 use crate::original;
 
-/// The value of a period: its smallest exponent for which nine bits hold what is left.
+/// The value of a period. Its exponent is the smallest for which nine bits hold what is left.
 pub fn period_value(period: u32) -> Answer {
     if period == 0 || period > 65535 {
         return Answer::refused(16);
@@ -18,7 +18,7 @@ pub fn period_value(period: u32) -> Answer {
 /// The refusal, and what a buffer of `length` samples holds after the call.
 pub fn simulate_reply(length: usize, value: u32, lead: usize, mask: u32) -> (u32, Vec<u16>) {
     let untouched = vec![UNTOUCHED; length];
-    // Written without a sum, which a large lead would overflow.
+    // There is no sum here, because a large lead would overflow it.
     if length < READ || length - READ < lead {
         return (13, untouched);
     }

@@ -1,5 +1,5 @@
 //! The readers of frames, and a step of any run of commands, written out plainly from document 01's
-//! sentences. The source has no readers, and of runs it makes two; what it encodes is the judge.
+//! sentences. The source has no readers, and makes only two runs. What it encodes is the judge.
 
 use crate::frame_original::{bidirectional, encode_sequence, from_value};
 use std::sync::OnceLock;
@@ -7,7 +7,7 @@ use std::sync::OnceLock;
 /// A value, its telemetry bit, and 0 for a plain checksum or 1 for an inverted one.
 type Frame = [u16; 3];
 
-/// What each word says: that of which the source makes it, if there is any.
+/// What each word says: what the source makes it from, if it makes it.
 fn table() -> &'static [Option<Frame>] {
     static TABLE: OnceLock<Vec<Option<Frame>>> = OnceLock::new();
     TABLE.get_or_init(|| {
@@ -27,14 +27,15 @@ fn table() -> &'static [Option<Frame>] {
     })
 }
 
-/// A packet has sixteen bits: a wider word is none, whatever its low bits say.
+/// A packet has sixteen bits. A wider word is no packet, whatever its low bits say.
 pub fn read_packet(packet: u32) -> Result<Frame, u32> {
     let word = u16::try_from(packet).map_err(|_| 15u32)?;
     table()[usize::from(word)].ok_or(15)
 }
 
-/// A sequence says what the packet does that the source encodes as it. With unlike high times there
-/// is one such packet at most, whose bits are set where the duty is the high time of a 1.
+/// A sequence says what its packet says: the packet that the source encodes as that sequence. If
+/// the high times differ, there is at most one. A bit of it is set if its duty is the high time of
+/// a 1.
 pub fn read_sequence(first: u32, slots: [u16; 16], timing: [u16; 4]) -> Result<Frame, u32> {
     let [_, zero_high, one_high, _] = timing;
     let first = u16::try_from(first).map_err(|_| 14u32)?;

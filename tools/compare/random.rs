@@ -1,4 +1,4 @@
-//! A small generator of numbers. Its seed is fixed, so that every run makes the same inputs.
+//! A small generator of numbers. Its seed is fixed, so every run makes the same inputs.
 
 pub struct Random(u64);
 
@@ -16,7 +16,7 @@ impl Random {
         self.0.wrapping_mul(0x2545_f491_4f6c_dd1d)
     }
 
-    /// The high half of a number: in the product the low bits are the weak ones.
+    /// The high half of a number. The low bits of the product are less random.
     pub fn word(&mut self) -> u32 {
         (self.number() >> 32) as u32
     }

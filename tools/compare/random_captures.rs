@@ -16,7 +16,7 @@ pub fn mask(random: &mut Random) -> u16 {
     }
 }
 
-/// Half of the captures are long, so that more of them hold a whole reply.
+/// Half of the captures are long, so more of them hold a whole reply.
 pub fn length(random: &mut Random) -> usize {
     let least = if random.one_in(2) { 0 } else { LONGEST / 2 };
     least + random.below(LONGEST - least + 1)
@@ -29,8 +29,8 @@ pub fn random_runs(random: &mut Random) -> Vec<bool> {
     captures::levels(lead, &times, Ending::Open, LONGEST)
 }
 
-/// A jittered reply, or some other word, with up to one run of a wrong length and up to two
-/// samples turned over.
+/// A jittered reply, or some other word. At most one run has a wrong length, and at most two
+/// samples are turned over.
 pub fn faulty(random: &mut Random) -> Vec<bool> {
     let word = match random.below(3) {
         0 => 1 << 20 | random.word() >> 12,

@@ -18,7 +18,7 @@ fn some(count: u64, mut random: Random) -> Tally {
             1 => captures::noisy(&random_runs(&mut random), mask, &mut random),
             _ => captures::noisy(&faulty(&mut random), mask, &mut random),
         };
-        // The capture is the first part of what was made: samples behind it must not matter.
+        // The capture is the first part of what was made. Samples behind it must not matter.
         let samples = &samples[..length(&mut random)];
         let high = random.word() << 16;
         capture_check::capture(&mut tally, samples, high | u32::from(mask));

@@ -1,5 +1,6 @@
-//! One line of the stored list for each kind of record, with the expected answer: the source's for
-//! kinds 1 to 5, document 01's for 6 and 7. Where a comparison fails, such a line names its input.
+//! One line of the stored list for each kind of record, with the expected answer. Kinds 1 to 5 have
+//! the source's, kinds 6 and 7 have document 01's. If a comparison fails, such a line names its
+//! input.
 
 use crate::{original, plain};
 

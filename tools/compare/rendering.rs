@@ -3,8 +3,8 @@
 use crate::captures::{jittered, READ};
 use crate::random::Random;
 
-/// The samples of each run. Jitter may carry the last edges out of what is read, so it is drawn
-/// until it does not.
+/// The samples of each run. Jitter may carry the last edges out of what is read. So it is drawn
+/// again until it does not.
 pub fn times(word: u32, random: &mut Random) -> Vec<usize> {
     loop {
         let times = jittered(word, random);

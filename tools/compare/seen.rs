@@ -1,5 +1,5 @@
-//! Sees the comparison fail. A call of each kind is compared once for each number of its answer, with
-//! that number spoiled; and then every part runs with what each call returns spoiled.
+//! Sees the comparison fail. First a call of each kind is compared once for each number of its
+//! answer, with that number spoiled. Then every part runs with what each call returns spoiled.
 
 use crate::capture_check::capture;
 use crate::checks;
@@ -88,7 +88,7 @@ impl Unseen {
         }
     }
 
-    /// A part, of which every answer was wrong.
+    /// A part whose every answer was wrong.
     fn part(&mut self, found: &Tally) {
         self.wrong += found.compared;
         if found.differ == 0 {
@@ -98,7 +98,7 @@ impl Unseen {
     }
 }
 
-/// How many wrong answers were not seen. Part 8 takes so many captures.
+/// How many wrong answers were not seen. The argument is how many captures part 8 takes.
 pub fn unseen(count: u64) -> u64 {
     let mut seen = Unseen {
         wrong: 0,

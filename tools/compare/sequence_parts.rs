@@ -9,7 +9,7 @@ use crate::timings::{self, EQUAL, ODD};
 const PACKETS: [u32; 6] = [0, 0xffff, 0x5555, 0xaaaa, 0x8001, 0x1234];
 const DUTIES: [u32; 8] = [0, 1, 2, 3, 7, 279, 43691, 65535];
 
-/// Every flag but 0 is yes, also one whose low bits are 0.
+/// Every flag except 0 is yes, also one whose low bits are 0.
 const FLAGS: [u32; 7] = [0, 1, 2, 256, 1 << 16, 1 << 31, u32::MAX];
 
 pub fn duty_for_bit() -> Tally {
@@ -25,7 +25,7 @@ pub fn duty_for_bit() -> Tally {
     tally
 }
 
-/// Of both numbers the low 16 bits count.
+/// The low 16 bits of both numbers count.
 pub fn encode_packet() -> Tally {
     let mut tally = Tally::new("13 encode_packet, all duties and all words");
     let mut random = Random::new(16);
@@ -49,7 +49,7 @@ fn written(left: &Left) -> (u32, [u16; 16]) {
     (first[0].into(), slots)
 }
 
-/// Every word is encoded, and what the source encodes it as is read.
+/// Encodes every word, and reads what the source encodes it as.
 pub fn sequences() -> [Tally; 2] {
     let mut encoded = Tally::new("14 encode_compare_sequence, all words at 11 timings");
     let mut taken = Tally::new("14 read_compare_sequence, what was encoded");

@@ -1,12 +1,12 @@
-//! Part 9: calls that are lent a wrong number of slots, which only the library can be. Each answers
-//! 13, before any other refusal, and writes nothing.
+//! Part 9: calls that are lent a wrong number of slots. Only the library can be lent these. Each
+//! answers 13 (wrong length), before any other refusal, and writes nothing.
 
 use crate::answer::Answer;
 use crate::library::{self, READING, VALUE, WORD};
 use crate::tally::Tally;
 use crate::{original, plain};
 
-/// What the calls are given: at first such as they take, and then such as they would refuse.
+/// What the calls are given: first inputs that they take, then inputs that they would refuse.
 struct Given<'a> {
     samples: &'a [u16],
     word: u32,

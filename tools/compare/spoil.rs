@@ -1,19 +1,19 @@
-//! Wrong answers on purpose: where it is asked for, one number of what the library answers is changed
-//! before anybody compares it. So the comparison can be seen to fail.
+//! Wrong answers on purpose. If it is asked for, one number of what the library answers is changed
+//! before it is compared. So the comparison can be seen to fail.
 
 use std::ops::BitXorAssign;
 use std::sync::atomic::{AtomicUsize, Ordering};
 
-/// Calls by their kinds in the stored list, where a reading with EDT on and a call on frames have
-/// numbers of their own.
+/// Calls by their kinds in the stored list. A reading with EDT on and a call on frames have numbers
+/// of their own.
 pub const SAMPLED_WITH_EDT: usize = 24;
 pub const FRAMES: usize = 25;
 
 /// Calls of every kind.
 pub const ANY: usize = 26;
 
-/// The kind that is spoiled, 0 for none, and the place of the number: 0 for what the call returned,
-/// and then the slots.
+/// The kind that is spoiled, or 0 for none, and the place of the number. Place 0 is what the call
+/// returned. The slots follow.
 static KIND: AtomicUsize = AtomicUsize::new(0);
 static PLACE: AtomicUsize = AtomicUsize::new(0);
 

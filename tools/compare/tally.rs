@@ -3,14 +3,14 @@
 
 const SHOWN: usize = 3;
 
-/// Room for document 01's refusals up to 17, which the answers are counted by; 0 is done.
+/// Room for document 01's refusals up to 17. The answers are counted by them; 0 is done.
 const NUMBERS: usize = 18;
 
 pub struct Tally {
     pub name: &'static str,
     pub compared: u64,
     pub differ: u64,
-    /// How often each answer was the right one: a part that only meets refusals would show little.
+    /// How often each answer was the right one. A part that only meets refusals would show little.
     answers: [u64; NUMBERS],
     smallest: Vec<(usize, String)>,
     notes: Vec<String>,
@@ -28,8 +28,8 @@ impl Tally {
         }
     }
 
-    /// Counts one input, of which `refusal` is the right answer. `text` describes it if it differs,
-    /// and `size` orders such inputs.
+    /// Counts one input. `refusal` is its right answer. If it differs, `text` describes it, and
+    /// `size` orders such inputs.
     pub fn compare(
         &mut self,
         refusal: u32,
@@ -53,7 +53,7 @@ impl Tally {
         }
     }
 
-    /// A count that must come out at a known number.
+    /// A count that must be a known number.
     pub fn expect(&mut self, what: &str, count: u64, right: u64) {
         self.notes
             .push(format!("{what}: {count} ({right} expected)"));

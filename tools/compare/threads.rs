@@ -1,4 +1,4 @@
-//! A part of the comparison on two threads, each with numbers of its own.
+//! Runs a part of the comparison on two threads, each with numbers of its own.
 
 use crate::random::Random;
 use crate::tally::Tally;

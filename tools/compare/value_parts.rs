@@ -1,4 +1,4 @@
-//! Parts 1 to 3: the calls on numbers, over all of their inputs or nearly.
+//! Parts 1 to 3: the calls on numbers, over all or nearly all of their inputs.
 
 use crate::checks;
 use crate::random::Random;
@@ -28,7 +28,7 @@ pub fn values() -> Tally {
     for value in 0..1 << 16 {
         checks::reply_from_value(&mut tally, value, 0);
         checks::reply_from_value(&mut tally, value, 1);
-        // The low 12 bits of a wide value count, and every flag but 0 is yes.
+        // The low 12 bits of a wide value count, and every flag except 0 is yes.
         let wide = random.word() << 16 | value;
         checks::reply_from_value(&mut tally, wide, 0);
         checks::reply_from_value(&mut tally, wide, 1 << (value % 32));
@@ -46,15 +46,15 @@ pub fn reply_words() -> Tally {
     tally
 }
 
-/// The source turns no period into a value: document 01's sentence, written out in plain.rs, is
-/// what the library is held to here.
+/// The source turns no period into a value. So the library is compared with document 01's sentence,
+/// which plain.rs writes out.
 pub fn periods() -> Tally {
     let mut tally = Tally::new("3 period_value, against document 01's sentence and no source");
     let mut random = Random::new(4);
     for period in 0..=1 << 16 {
         checks::period_value(&mut tally, period);
     }
-    // Near the powers of 2 a period cut to fewer bits would look small.
+    // If a period near a power of 2 were cut to fewer bits, it would look small.
     for power in (17..32).map(|exponent| 1 << exponent) {
         for period in [power - 1, power, power + 1, power + 511] {
             checks::period_value(&mut tally, period);
