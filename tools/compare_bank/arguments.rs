@@ -3,7 +3,7 @@
 use crate::call::Run;
 use dshot_bank::{DshotCommandSequence, DshotMotor, DshotReplyStats, DshotStats};
 
-/// Nothing, where there is no such lane.
+/// Nothing, if there is no such lane.
 pub fn lane_of(motor: u64) -> Option<DshotMotor> {
     DshotMotor::from_index(usize::try_from(motor).ok()?)
 }

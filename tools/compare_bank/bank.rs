@@ -1,5 +1,5 @@
-//! The source's bank over the lanes of `lanes.rs`, with its two buffers: makes a call, and tells
-//! what it gave.
+//! The source's bank over the lanes of `lanes.rs`, with its two buffers. It makes a call, and shows
+//! what the call gave.
 
 use crate::call::{Call, SLOTS};
 use crate::lanes::{Answers, Buffer, Lanes};
@@ -14,7 +14,7 @@ pub struct Bank {
 }
 
 impl Bank {
-    /// The lanes are sending the first buffer's parts, and those of the second are the spares.
+    /// The lanes are sending the first buffer's parts. The second buffer's parts are the spares.
     pub fn new([arr, zero_high, one_high, reply_sample_arr]: [u16; 4]) -> Self {
         let leaked = || -> [&'static mut Buffer; 4] { [(); 4].map(|()| Box::leak(Box::default())) };
         let current = leaked();
@@ -80,7 +80,7 @@ impl Bank {
     }
 }
 
-/// The slots that are not what they were: buffer, slot and value of each.
+/// The slots that have changed: buffer, slot and value of each.
 fn changed(before: &[[u16; SLOTS]; 2], after: &[[u16; SLOTS]; 2]) -> Vec<u64> {
     let mut changed = Vec::new();
     for buffer in 0..2 {

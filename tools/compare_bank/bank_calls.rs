@@ -1,7 +1,7 @@
 //! The calls of a list, made on the source's bank.
 //!
-//! The refusals 12 and 13 are document 01's, and made here: the source's types have no room for
-//! such lanes and lengths.
+//! The refusals 12 (no such motor) and 13 (wrong length) are document 01's. They are made here,
+//! because the source's types have no room for such lanes and lengths.
 
 use crate::arguments::{lane_of, reply_stats_of, run_of, stats_of};
 use crate::bank::Bank;
@@ -32,7 +32,7 @@ impl Bank {
         }
     }
 
-    /// The calls that answer a refusal's number, 0 for done, and those that answer nothing.
+    /// The calls that answer a refusal's number or 0 for done, and those that answer nothing.
     fn demand(&mut self, call: &Call) -> Option<u64> {
         let bank = &mut self.bank;
         match *call {

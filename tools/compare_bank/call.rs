@@ -48,7 +48,7 @@ pub enum Call {
     },
     SetStats([u32; 11]),
     SetReplyStats([u32; 12]),
-    /// It asks no bank.
+    /// This call asks no bank.
     FallbackReleaseDue {
         now: u32,
         last: u32,
@@ -63,7 +63,7 @@ pub struct Run {
     pub repeats_left: u8,
 }
 
-/// The clock, and the hardware's answers and lent buffers of a service.
+/// The clock of a service, its lent buffers, and the hardware's answers to it.
 #[derive(Clone, Debug, PartialEq)]
 pub struct Service {
     pub now: u64,
@@ -72,7 +72,7 @@ pub struct Service {
     pub masks: [u16; 4],
     pub lengths: [usize; 2],
     pub capture_length: usize,
-    /// Samples, and how often each comes in a row. Zeros follow them.
+    /// Samples, each with how often it comes in a row. Zeros follow them.
     pub runs: Vec<(u16, usize)>,
 }
 

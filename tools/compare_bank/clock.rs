@@ -2,11 +2,11 @@
 
 use crate::random::Random;
 
-/// The latest time that it gave.
+/// The latest time that the clock gave.
 pub struct Clock(pub u64);
 
 impl Clock {
-    /// Some start close to where they wrap, or where a narrower one would.
+    /// Some clocks start close to where they wrap, or where a narrower clock would wrap.
     pub fn any(random: &mut Random) -> Self {
         let near = random.below(300) as u64;
         Self(match random.below(8) {
@@ -19,8 +19,8 @@ impl Clock {
         })
     }
 
-    /// It goes on, mostly by a tick or two; now and then it stands, leaps, also to where it wraps
-    /// next, or goes back.
+    /// The clock goes on, mostly by a tick or two. Now and then it stands, leaps or goes back. Some
+    /// leaps go to where it wraps next.
     pub fn tick(&mut self, random: &mut Random) -> u64 {
         let on = |ticks: u64| self.0.wrapping_add(ticks);
         self.0 = match random.below(80) {
@@ -34,7 +34,7 @@ impl Clock {
         self.0
     }
 
-    /// A time for a demand, now and then another than that of the services.
+    /// A time for a demand. Now and then it differs from that of the services.
     pub fn beside(&self, random: &mut Random) -> u64 {
         match random.below(12) {
             0 => random.number(),

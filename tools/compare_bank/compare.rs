@@ -1,4 +1,4 @@
-//! Random lists put to the source and to the program, on two threads.
+//! Puts random lists to the source and to the program, on two threads.
 
 use crate::coverage::Coverage;
 use crate::differences::Differences;
@@ -18,7 +18,7 @@ struct Found {
     differences: Differences,
 }
 
-/// How many lines differ and cases are at zero, together.
+/// How many lines differ plus how many cases are at zero.
 pub fn compare(program: &Path, calls: u64, folder: &Path) -> io::Result<u64> {
     let found = std::thread::scope(|scope| {
         let start = |thread| {

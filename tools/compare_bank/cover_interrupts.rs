@@ -66,7 +66,7 @@ fn status(step: &Step, complete: bool, error: bool) -> bool {
     step.awaited() && alike
 }
 
-/// The last lane completed, and still there was a fault.
+/// The last lane completed, but there was a fault.
 fn turn(step: &Step) -> bool {
     status(step, true, false) && step.after().faulted
 }

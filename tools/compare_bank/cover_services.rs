@@ -126,7 +126,7 @@ fn event(step: &Step, event: u64) -> bool {
     step.service().is_some_and(|(_, given)| given == event)
 }
 
-/// Refused, and this buffer alone has a wrong length.
+/// Refused, and only this buffer has a wrong length.
 fn length(step: &Step, alone: fn([bool; 3]) -> bool) -> bool {
     let Call::Service(service) = step.call else {
         return false;
@@ -146,7 +146,7 @@ fn earlier(step: &Step) -> bool {
     now.is_some_and(|now| now < step.before.lease_started_ms)
 }
 
-/// A service in a busy bank that stays so.
+/// A service in a busy bank that stays busy.
 fn waited(step: &Step) -> bool {
     step.served() && step.before.busy && step.after().busy
 }

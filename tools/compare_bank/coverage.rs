@@ -12,7 +12,7 @@ use crate::words::{self, Word};
 use crate::write_call::{code, joined};
 use std::collections::BTreeMap;
 
-/// A case, and whether a call is one of it.
+/// A case, and whether a call belongs to it.
 pub type Case = (&'static str, fn(&Step) -> bool);
 
 /// The groups of cases under their titles.
@@ -27,7 +27,7 @@ const GROUPS: [(&str, &[Case]); 5] = [
     ("numbers at their places", NUMBERS),
 ];
 
-/// What a lane's reply can be: the source reads with EDT off.
+/// What a lane's reply can be. The source reads with EDT off.
 const REPLIES: [&str; 9] = [
     "absent: 7",
     "NoReply: 7",
@@ -125,7 +125,7 @@ impl Coverage {
         groups
     }
 
-    /// The cases that no call was one of.
+    /// The cases that no call belonged to.
     pub fn at_zero(&self) -> Vec<String> {
         let cases = self.groups().into_iter().flat_map(|(_, counts)| counts);
         let missed = cases.filter(|(_, count)| *count == 0);

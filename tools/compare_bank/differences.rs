@@ -1,4 +1,4 @@
-//! Where the program's lines are not the source's: how many, and the first of each kind.
+//! The lines of the program that differ from the source's: how many, and the first of each kind.
 
 use crate::call::NAMES;
 use crate::program::Given;
@@ -13,7 +13,7 @@ pub const PARTS: [&str; 4] = ["answer", "orders", "fields", "slots"];
 #[derive(Default)]
 pub struct Differences {
     pub lines: u64,
-    /// The first of each kind, which is told by the call and by what differs.
+    /// The first of each kind. The kind is the call and what differs.
     first: BTreeMap<String, Difference>,
 }
 
@@ -22,13 +22,13 @@ struct Difference {
     line: usize,
     right: String,
     given: String,
-    /// The calls up to that line, the last one apart.
+    /// The calls up to that line, with the last one by itself.
     before: String,
     call: String,
 }
 
 impl Differences {
-    /// Of each list only the first difference is kept: those behind it may follow from it.
+    /// Only the first difference of each list is kept. Later ones may follow from it.
     pub fn compare(&mut self, list: u64, record: &Record, given: &Given) {
         let calls = record.calls.len();
         let shown = |line: usize| given.lines.get(line).map_or("no line", String::as_str);

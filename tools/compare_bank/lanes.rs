@@ -1,4 +1,4 @@
-//! The hardware under the source's bank: its answers come from the list, and its orders are kept.
+//! The hardware under the source's bank. Its answers come from the list, and its orders are kept.
 
 use dshot_bank::{DshotLanes, DshotMotor};
 use ferrowasp_output::dshot::{encode_compare_sequence, DshotPacket, DshotTiming};
@@ -26,7 +26,7 @@ pub struct Lanes {
     /// The buffers that the lanes are sending.
     pub current: [&'static mut Buffer; 4],
     pub answers: Answers,
-    /// Each order's kind and motor, and behind the start of a frame the first duties.
+    /// Each order's kind and motor. The first duties follow the start of a frame.
     pub orders: Vec<u64>,
 }
 

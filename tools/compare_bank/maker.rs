@@ -1,5 +1,5 @@
-//! Makes the calls of a random list one by one. It sees the bank as the calls before have left it,
-//! so that whole frames and windows are common and each fault is made where it can happen.
+//! Makes the calls of a random list one by one. It sees the bank as the calls before have left it.
+//! So whole frames and windows are common, and each fault is made where it can happen.
 
 use crate::call::{Call, Service, SLOTS};
 use crate::clock::Clock;
@@ -11,7 +11,8 @@ use crate::settings::Settings;
 use dshot_bank::Fields;
 use std::collections::VecDeque;
 
-/// One in so many calls makes a new bank: of a bank that is well, and after a fault.
+/// One in this many calls makes a new bank. The first number is for a bank without a fault, the
+/// second after a fault.
 const WELL: usize = 1000;
 const AFTER_FAULT: usize = 12;
 

@@ -8,7 +8,7 @@ use ferrowasp_output::dshot::DshotTiming;
 pub struct Outcome {
     pub answer: Vec<u64>,
     pub orders: Vec<u64>,
-    /// The fields after the call, and for each lane which buffer holds what it is sending.
+    /// The fields after the call, and for each lane the buffer that it is sending from.
     pub fields: Fields,
     pub marks: [bool; 4],
     pub changed: Vec<u64>,

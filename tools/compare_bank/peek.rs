@@ -1,7 +1,7 @@
 // What follows is not the source's: tools/compare_bank/run appends it, since a bank's fields are
 // private to this module.
 
-/// Every field of a bank but its lanes and spares.
+/// Every field of a bank except its lanes and spares.
 #[derive(Clone, Copy)]
 pub struct Fields {
     pub timing: DshotTiming,
@@ -27,7 +27,7 @@ impl<L> DshotBank<L>
 where
     L: DshotLanes,
 {
-    /// The pattern names every field, so that one more in the source would not go unseen.
+    /// The pattern names every field. If the source had one more, this would not compile.
     pub fn fields(&self) -> Fields {
         #[rustfmt::skip]
         let Self {

@@ -13,12 +13,12 @@ pub struct Program {
 
 pub struct Given {
     pub lines: Vec<String>,
-    /// How the program ended, where that was not with status 0.
+    /// How the program ended, if not with status 0.
     pub failure: Option<String>,
 }
 
 impl Program {
-    /// Each thread has its own, and so a file of its own.
+    /// Each thread has its own program, and so a file of its own.
     pub fn new(path: &Path, folder: &Path, thread: u64) -> Self {
         Self {
             path: path.to_path_buf(),
@@ -35,7 +35,7 @@ impl Program {
         let text = String::from_utf8_lossy(&output.stdout);
         let failed = !output.status.success();
         Ok(Given {
-            // The last line has an end, too.
+            // The last line has an end too.
             lines: text.split_terminator('\n').map(str::to_string).collect(),
             failure: failed.then(|| output.status.to_string()),
         })

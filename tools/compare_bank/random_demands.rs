@@ -11,7 +11,7 @@ pub fn motor(random: &mut Random) -> u64 {
     }
 }
 
-/// A lane that is not there.
+/// A lane that does not exist.
 pub fn above(random: &mut Random) -> u64 {
     match random.below(8) {
         0 => random.number() | 1 << 40,
@@ -20,7 +20,7 @@ pub fn above(random: &mut Random) -> u64 {
     }
 }
 
-/// Four throttles, now and then one of them too large.
+/// Four throttles. Now and then one of them is too large.
 pub fn throttles(now: u64, random: &mut Random) -> Call {
     let mut commands = [(); 4].map(|()| throttle(random));
     match random.below(16) {
@@ -81,7 +81,7 @@ pub fn special(random: &mut Random) -> Call {
     }
 }
 
-/// A length that is not right, or is.
+/// A wrong length, or the right one.
 pub fn slots(random: &mut Random) -> usize {
     match random.below(3) {
         0 => [0, 1, 16, 63, 65, 80][random.below(6)],
@@ -90,7 +90,7 @@ pub fn slots(random: &mut Random) -> usize {
     }
 }
 
-/// Counts of which most are close to their limit.
+/// Counts. Most are close to their limit.
 pub fn counts<const N: usize>(random: &mut Random) -> [u32; N] {
     [(); N].map(|()| match random.below(4) {
         0 | 1 => u32::MAX,
@@ -110,7 +110,7 @@ pub fn look(random: &mut Random) -> Call {
     }
 }
 
-/// A view, now and then of a lane that is not there or of buffers with a wrong length.
+/// A view. Now and then it is of a lane that does not exist, or of buffers with a wrong length.
 pub fn view(random: &mut Random) -> Call {
     let motor = motor(random);
     let lengths = match random.below(6) {
@@ -128,7 +128,7 @@ pub fn write(random: &mut Random) -> Call {
     }
 }
 
-/// Times that mostly differ by little, many of them on both sides of the wrap.
+/// Two times that mostly differ by little. Many are on both sides of the wrap.
 pub fn release(random: &mut Random) -> Call {
     let near = random.below(4) as u32;
     let last = match random.below(3) {

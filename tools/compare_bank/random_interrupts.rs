@@ -11,7 +11,7 @@ fn open(fields: &Fields) -> Vec<u64> {
     (0..4).filter(is_open).collect()
 }
 
-/// An open lane completes. Answers to what is not asked for may be anything.
+/// An open lane completes. Answers that are not asked for may be anything.
 pub fn completion(fields: &Fields, random: &mut Random) -> Call {
     let open = open(fields);
     let last = open.len() == 1;
@@ -56,7 +56,7 @@ pub fn failed(fields: &Fields, random: &mut Random) -> Call {
     }
 }
 
-/// A lane that is done already; any, where there is none.
+/// A lane that is done already. If there is none, any lane.
 pub fn again(fields: &Fields, random: &mut Random) -> Call {
     let open = open(fields);
     let done: Vec<u64> = (0..4).filter(|lane| !open.contains(lane)).collect();

@@ -4,8 +4,8 @@ use crate::coverage::Coverage;
 use crate::maker::Maker;
 use crate::record::Record;
 
-/// A list's text has fewer bytes than this, so no call is added above the second number: a line is
-/// shorter than the difference.
+/// A list's text has fewer bytes than the first number. If it has more than the second, no call is
+/// added. A line is shorter than the difference.
 pub const LONGEST: usize = 60_000;
 const FULL: usize = LONGEST - 10_000;
 

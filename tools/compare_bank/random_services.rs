@@ -7,7 +7,7 @@ use crate::random_demands::slots;
 use crate::random_windows::windows;
 use dshot_bank::Fields;
 
-/// Lends captures where they are read, and now and then where they are not.
+/// Lends captures if they are read, and now and then also if they are not.
 pub fn service(now: u64, fields: &Fields, random: &mut Random) -> Service {
     let service = Service::at(now);
     if fields.replies_waiting || random.one_in(16) {
@@ -20,7 +20,7 @@ pub fn service(now: u64, fields: &Fields, random: &mut Random) -> Service {
     }
 }
 
-/// In a busy or faulted bank no buffer is exchanged, so these answers may be anything.
+/// A busy or faulted bank exchanges no buffer, so these answers may be anything.
 pub fn unasked(service: Service, random: &mut Random) -> Service {
     Service {
         taken: [(); 4].map(|()| random.one_in(2)),
@@ -55,7 +55,7 @@ pub fn wrong_length(service: Service, random: &mut Random) -> Call {
     Call::Service(service)
 }
 
-/// Captures of some other length: samples are cut off or added.
+/// Captures of another length: samples are cut off or added.
 fn with_length(service: Service, random: &mut Random) -> Service {
     let length = match random.below(3) {
         0 => random.below(701),
@@ -71,7 +71,7 @@ pub fn in_time(fields: &Fields, random: &mut Random) -> u64 {
     fields.frame_started_ms.wrapping_add(random.below(2) as u64)
 }
 
-/// A clock at which it is: some ticks too late, or before the frame's start.
+/// A clock at which a busy bank is out of time: some ticks too late, or before the frame's start.
 pub fn too_late(fields: &Fields, random: &mut Random) -> u64 {
     let ticks = match random.below(4) {
         0 => 2,

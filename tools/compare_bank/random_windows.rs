@@ -1,5 +1,5 @@
-//! Random windows: renderings of replies, of damaged words and of words with a moved edge, other
-//! levels, noise, and captures that are absent.
+//! Random windows: renderings of replies, of damaged words and of words with a moved edge. Also
+//! other levels, noise, and absent captures.
 
 use crate::captures::{self, levels, BIT, ROOM};
 use crate::damage::{damaged, endings};
@@ -19,10 +19,10 @@ fn window(random: &mut Random) -> Window {
     let mask = random_captures::mask(random);
     let mut window = Window::of(&levels, mask);
     match random.below(32) {
-        // Every sample by itself, which makes long lines.
+        // Every sample is drawn by itself, which makes long lines.
         0 => window.samples = captures::noisy(&levels, mask, random),
         1 => window.samples = (0..WINDOW).map(|_| random.word() as u16).collect(),
-        // The other pins rest.
+        // The other pins do not change.
         2..=15 => {
             let others = random.word() as u16 & !mask;
             window.samples.iter_mut().for_each(|pins| *pins |= others);
@@ -48,7 +48,7 @@ fn window_levels(random: &mut Random) -> Vec<bool> {
     levels
 }
 
-/// Among the values are the stopped rotor, the acknowledgement and periods of 0.
+/// Values. The stopped rotor, the acknowledgement and periods of 0 are among them.
 fn value(random: &mut Random) -> u32 {
     match random.below(16) {
         0 => 0xfff,

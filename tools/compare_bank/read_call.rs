@@ -6,7 +6,7 @@ use crate::call::{Call, Run, Service, Status, SLOTS};
 const MOST_SLOTS: usize = 80;
 const MOST_SAMPLES: usize = 700;
 
-/// Nothing, where the line is not a call.
+/// Nothing, if the line is not a call.
 pub fn call(line: &str) -> Option<Call> {
     let mut words = Words(line.split(' '));
     let code: u8 = words.number()?;

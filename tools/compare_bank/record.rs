@@ -1,4 +1,4 @@
-//! A list as it grows: its lines, the source's line for each, and the source's bank behind them.
+//! A list as it grows: its lines, the source's line for each, and the source's bank after them.
 
 use crate::bank::Bank;
 use crate::call::Call;
@@ -37,7 +37,7 @@ impl Record {
         outcome
     }
 
-    /// The same, and counts the cases that the call is one of.
+    /// The same. It also counts the cases that the call belongs to.
     pub fn counted(&mut self, call: &Call, seen: &mut Coverage) -> Outcome {
         let before = self.bank.fields();
         let outcome = self.call(call);

@@ -11,7 +11,7 @@ pub trait Refusal {
     fn number(self) -> u64;
 }
 
-/// 0 where the call was done.
+/// If the call was done, 0.
 pub fn number(result: Result<(), impl Refusal>) -> u64 {
     result.map_or_else(Refusal::number, |()| 0)
 }
@@ -48,7 +48,7 @@ impl Refusal for DshotInitError {
     fn number(self) -> u64 {
         match self {
             Self::RepliesUnsupported => 22,
-            // Of lanes and timers that hardware is made of, which no call here does.
+            // These come up when the hardware's lanes and timers are built. No call here does that.
             _ => unreachable!("a bank is not refused so"),
         }
     }

@@ -20,9 +20,9 @@ fn taken_to(now: u64, lane: usize) -> Service {
     service
 }
 
-/// Refused at lane 2: lanes 0 and 1 are sending the first buffer again, the others the second, and
-/// all four spares are new. Then refused at the other lanes of new banks, at lane 0 together with
-/// an expired lease.
+/// First the exchange is refused at lane 2. Lanes 0 and 1 are sending the first buffer again, the
+/// others the second, and all four spares are new. Then it is refused at the other lanes of new
+/// banks. At lane 0 a lease has expired too.
 fn exchanges(script: &mut Script) {
     script.unidirectional();
     script.throttles([100, 200, 300, 400], 10, 50);
@@ -43,7 +43,7 @@ fn exchanges(script: &mut Script) {
     script.view(0, 3, [64; 2]);
 }
 
-/// More than 1 ms is too long, for sending and for receiving, and 1 is not.
+/// More than 1 ms is too long, for sending and for receiving. 1 ms is not.
 fn timeouts(script: &mut Script) {
     script.bidirectional();
     script.service(10, STARTED);
@@ -58,7 +58,8 @@ fn timeouts(script: &mut Script) {
     script.interrupt(1, Status::DONE, FAULT);
 }
 
-/// A clock before the frame's start is out of time, and one before the lease's start is expired.
+/// If the clock is before the frame's start, the frame is out of time. If it is before the lease's
+/// start, the lease is expired.
 fn earlier_clocks(script: &mut Script) {
     script.unidirectional();
     script.service(10, STARTED);
@@ -68,7 +69,7 @@ fn earlier_clocks(script: &mut Script) {
     script.service(99, EXPIRED);
 }
 
-/// A clock that has wrapped is not an earlier one: within the lease and within the frame's time.
+/// A clock that has wrapped is not an earlier clock. It is within the lease and the frame's time.
 fn wrapped_clocks(script: &mut Script) {
     let top = u64::MAX;
     script.unidirectional();
@@ -80,7 +81,7 @@ fn wrapped_clocks(script: &mut Script) {
     script.service(1, FAULTED);
 }
 
-/// An interrupt of an idle bank, with and without an error, and of a lane that is done. Before the
+/// Interrupts of an idle bank, with and without an error, and of a lane that is done. Before the
 /// last one a request was sent, which is too late to cancel, and the bank was turned once more.
 fn spurious(script: &mut Script) {
     let error = Status {
@@ -105,7 +106,7 @@ fn spurious(script: &mut Script) {
     script.interrupt(0, Status::DONE, SPURIOUS);
 }
 
-/// An error is a fault, also where the transfer is not complete, which by itself is spurious.
+/// An error is a fault, also if the transfer is not complete. By itself that would be spurious.
 fn failed(script: &mut Script) {
     for (complete, error, event) in [
         (true, true, FAULT),

@@ -12,7 +12,7 @@ pub fn scenes(script: &mut Script) {
     releases(script);
 }
 
-/// Four different throttles, a telemetry request, and four different replies at different places
+/// Four different throttles and a telemetry request. The four replies differ, at different places
 /// and pins.
 fn ordinary(script: &mut Script) {
     script.bidirectional();
@@ -40,8 +40,8 @@ fn ordinary(script: &mut Script) {
     script.call(Call::ReplyStats);
 }
 
-/// A lease is kept at its last tick. One tick later it is over: in an idle bank a frame of zeros
-/// starts, a busy one waits on, and one that is out of time counts the expiry and faults.
+/// A lease is kept at its last tick. One tick later it is over. If the bank is idle, a frame of
+/// zeros starts. If it is busy, it waits on. If it is out of time, it counts the expiry and faults.
 fn expired(script: &mut Script) {
     script.unidirectional();
     script.throttles([7, 8, 9, 10], 100, 5);
@@ -58,8 +58,8 @@ fn expired(script: &mut Script) {
     assert_eq!(script.record.bank.fields().stats.lease_expiries, 3);
 }
 
-/// Turned bidirectional in the middle of a frame, which then has a window. An interrupt too many is
-/// a fault, and that window is not read any more.
+/// The bank is turned bidirectional in the middle of a frame, which then has a window. One
+/// interrupt too many is a fault, and then that window is not read.
 fn turned_late(script: &mut Script) {
     script.unidirectional();
     script.service(1, STARTED);
@@ -72,7 +72,8 @@ fn turned_late(script: &mut Script) {
     script.service(2, FAULTED);
 }
 
-/// The caller's own writes: into what is sent, into the spare, and of what is there already.
+/// The caller's own writes: into what is sent, into the spare, and of a value that is there
+/// already.
 fn writes(script: &mut Script) {
     script.unidirectional();
     script.write(0, 5, 77);
@@ -84,7 +85,7 @@ fn writes(script: &mut Script) {
     script.view(0, 1, [64; 2]);
 }
 
-/// A release is due two ticks after the last one, also across the wrap, whatever the bank is like.
+/// A release is due two ticks after the last one, also across the wrap, in any state of the bank.
 fn releases(script: &mut Script) {
     script.bidirectional();
     script.throttles([1, 2, 3, 4], 100, 9);

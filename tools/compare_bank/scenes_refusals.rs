@@ -1,4 +1,4 @@
-//! Scenes of refused calls, and of their order where a call could be refused for several reasons.
+//! Scenes of refused calls. If a call could be refused for several reasons, they show the order.
 
 use crate::call::{Call, Run, Service, Status};
 use crate::script::{Script, BUSY, FAULT, FAULTED, REVERSE, SPURIOUS, STARTED};
@@ -18,7 +18,7 @@ fn throttles(script: &mut Script) {
     script.throttles([0; 4], 2, 9);
     script.run(0, 0, REVERSE);
     script.throttles([0, 0, 1, 0], 2, 9);
-    // Running comes before a run that is pending.
+    // 19 (motors running) comes before 20 (command pending).
     script.run(19, 0, REVERSE);
     script.call(Call::CommandStop);
     script.run(20, 0, REVERSE);
@@ -35,7 +35,7 @@ fn wide_lane(script: &mut Script, lane: u64) {
     script.view(12, lane, [64; 2]);
 }
 
-/// Lanes above 3, of which the low bits may be those of a lane.
+/// Lanes above 3. Their low bits may be those of a lane.
 fn lanes(script: &mut Script) {
     script.unidirectional();
     wide_lane(script, 4);

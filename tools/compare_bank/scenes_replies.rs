@@ -15,15 +15,15 @@ pub fn scenes(script: &mut Script) {
     other_full_counts(script);
 }
 
-/// The refusals that the lanes' replies are counted under.
+/// The refusals by which the lanes' replies are counted.
 fn expect_refusals(script: &mut Script, now: u64, windows: [Window; 4], right: [u64; 4]) {
     let outcome = script.served(Service::at(now).with_windows(&windows), STARTED);
     let stored = replies(outcome.fields.replies);
     assert_eq!([1, 4, 7, 10].map(|place| stored[place]), right);
 }
 
-/// A capture for each refusal from 7 to 10. Of 0x123's damaged words one has a symbol that is none,
-/// and one a wrong checksum.
+/// A capture for each refusal from 7 to 10 (no reply, overlong, invalid symbol, checksum). One
+/// damaged word of 0x123 has an invalid symbol, and one a wrong checksum.
 fn refused() -> [Window; 4] {
     let bad = |refusal: u32| {
         let mut words = damaged(reply_transitions_for(0x123));
@@ -34,8 +34,8 @@ fn refused() -> [Window; 4] {
     [missing, Window::bits(23, 2), bad(9), bad(10)]
 }
 
-/// Each refusal of a reply; replies that nobody takes make room for the next; and an edge that is
-/// one bit late, so that another value is read, after a bad reply.
+/// Each refusal of a reply. Replies that nobody takes make room for the next. After a bad reply, an
+/// edge is one bit late, so another value is read.
 fn refusals(script: &mut Script) {
     script.bidirectional();
     script.service(1, STARTED);
@@ -87,7 +87,7 @@ fn kept_over_a_fault(script: &mut Script) {
     script.expect(0, Call::TakeReplies);
 }
 
-/// Counts at their largest values: all wrap but the one of bad replies in a row.
+/// Counts at their largest values. All wrap except the count of bad replies in a row.
 fn full_counts(script: &mut Script) {
     script.bidirectional();
     script.call(Call::SetStats([u32::MAX; 11]));
@@ -115,7 +115,7 @@ fn full_counts(script: &mut Script) {
     assert_eq!(script.record.bank.fields().stats.spurious_interrupts, 0);
 }
 
-/// The same counts of replies, each of the other kind.
+/// The same counts of replies, each for the other kind of reply.
 fn other_full_counts(script: &mut Script) {
     script.bidirectional();
     script.call(Call::SetReplyStats([u32::MAX; 12]));

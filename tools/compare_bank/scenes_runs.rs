@@ -11,8 +11,8 @@ pub fn scenes(script: &mut Script) {
     other_fields(script);
 }
 
-/// Throttles that expire before a frame leave the run: its next command, here a first command for
-/// the last time, is sent.
+/// If throttles expire before a frame, they leave the run. Its next command is sent: here a first
+/// command for the last time.
 fn left(script: &mut Script) {
     script.bidirectional();
     let run = Run {
@@ -26,8 +26,8 @@ fn left(script: &mut Script) {
     script.view(0, 1, [64; 2]);
 }
 
-/// So do throttles that are stopped before one. Others cancel it when a frame starts, and not
-/// before.
+/// If throttles are stopped before a frame, they leave the run too. Others cancel it when a frame
+/// starts, and not before.
 fn cancelled(script: &mut Script) {
     script.unidirectional();
     script.run(0, 0, REVERSE);
@@ -41,9 +41,9 @@ fn cancelled(script: &mut Script) {
     script.pending(false);
 }
 
-/// A whole run, twenty frames, and the one that finds it spent, in a bank whose lanes cannot
-/// receive. One request is cancelled; another waits for the frame that finds the run spent, and its
-/// lane, which nobody takes, is gone at the service after that.
+/// A whole run of twenty frames, and the frame that finds it spent, in a bank whose lanes cannot
+/// receive. One request is cancelled. Another waits for the frame that finds the run spent. Nobody
+/// takes its lane, which is gone at the service after that.
 fn spent(script: &mut Script) {
     script.unidirectional();
     script.expect(22, Call::EnableBidirectional(false));
@@ -68,8 +68,8 @@ fn spent(script: &mut Script) {
     script.expect(0, Call::TakeTelemetryRequestSent);
 }
 
-/// A run that is spent from the start, and one whose count of 0 wraps and whose command is cut to
-/// eleven bits.
+/// A run that is spent from the start. Then a run whose count of 0 wraps and whose command is cut
+/// to eleven bits.
 fn other_fields(script: &mut Script) {
     script.unidirectional();
     let run = |index, repeats_left| Run {

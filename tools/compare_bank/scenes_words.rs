@@ -1,5 +1,5 @@
-//! Scenes of numbers that are unlike each other, so that each shows its place in a line, and of the
-//! lanes one by one.
+//! Scenes of numbers that all differ, so each shows its place in a line. Also scenes of the lanes
+//! one by one.
 
 use crate::call::{Call, Run};
 use crate::script::{Script, STARTED};
@@ -11,7 +11,7 @@ pub fn scenes(script: &mut Script) {
     counts(script);
 }
 
-/// Throttles that start with a 1 in each second lane, and late clocks.
+/// Late clocks, and throttles that start with a 1 in each second lane.
 fn another_timing(script: &mut Script) {
     script.call(Call::FromLanes([65535, 300, 40000, 999]));
     script.expect(0, Call::IsFaulted);
@@ -51,7 +51,7 @@ fn counts(script: &mut Script) {
     script.call(Call::ReplyStats);
 }
 
-/// Numbers of more than 16 bits, each another one.
+/// Numbers of more than 16 bits. All differ.
 fn unlike<const N: usize>() -> [u32; N] {
     std::array::from_fn(|place| 70_001 * (place as u32 + 1))
 }

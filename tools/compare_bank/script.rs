@@ -1,5 +1,5 @@
-//! A list that is written by hand. What a scene says of its calls is asserted of the source, so
-//! that no scene shows something else than it says.
+//! A list that is written by hand. What a scene says of its calls is asserted of the source. So
+//! each scene shows what it says.
 
 use crate::call::{Call, Run, Service, Status, SLOTS};
 use crate::coverage::Coverage;
@@ -18,7 +18,7 @@ pub const COMPLETED: u64 = 1;
 pub const FAULT: u64 = 2;
 pub const SPURIOUS: u64 = 3;
 
-/// Turns the motor's direction round, and saves it.
+/// Reverses the motor's direction, and saves it.
 pub const REVERSE: Run = Run {
     commands: [21, 12],
     index: 0,
@@ -70,7 +70,7 @@ impl Script {
         self.expect(refusal, call);
     }
 
-    /// A run of commands for a motor, and what it is answered.
+    /// A run of commands for a motor, and the answer to it.
     pub fn run(&mut self, refusal: u64, motor: u64, run: Run) {
         self.expect(refusal, Call::CommandSpecial { motor, run });
     }
@@ -95,7 +95,7 @@ impl Script {
         assert_eq!(outcome.answer, [0, event]);
     }
 
-    /// These lanes complete in this order, and the lanes turn where they are asked to.
+    /// These lanes complete in this order, and the lanes turn if they are asked to.
     pub fn complete(&mut self, motors: &[u64]) {
         for &motor in motors {
             self.interrupt(motor, Status::DONE, COMPLETED);

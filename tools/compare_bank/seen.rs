@@ -1,5 +1,6 @@
 //! Sees the comparison fail. The source's own lines stand for a program's, with one number of one
-//! line changed: of each call, for each number of its line. Each must be reported as what it is.
+//! line changed. This is done for each call and each number of its line. Each change must be
+//! reported as what it is.
 
 use crate::call::NAMES;
 use crate::coverage::Coverage;
@@ -14,7 +15,7 @@ struct Seen {
 }
 
 impl Seen {
-    /// Of these lines so many are wrong, and that is why.
+    /// Compares. `wrong` says how many of these lines are wrong, and `why` says why.
     fn compare(&mut self, record: &Record, given: Given, wrong: u64, why: &str) {
         let mut found = Differences::default();
         found.compare(0, record, &given);
@@ -58,7 +59,7 @@ impl Seen {
     }
 }
 
-/// What a program gives that makes no fault.
+/// What a program without a fault gives.
 fn same(record: &Record) -> Given {
     Given {
         lines: record.right.clone(),
@@ -71,7 +72,7 @@ fn code(line: &str) -> usize {
     word.parse().expect("a number")
 }
 
-/// The line with each number of a part changed, or with a number where the part has none.
+/// The line with each number of a part changed. If the part has none, the line with a number added.
 fn changed(line: &str, part: usize) -> Vec<String> {
     let parts: Vec<&str> = line.split(" | ").collect();
     let words: Vec<&str> = parts[part].split(' ').collect();
@@ -87,14 +88,14 @@ fn changed(line: &str, part: usize) -> Vec<String> {
     (0..words.len()).map(with).collect()
 }
 
-/// How many wrong lines were not seen. The lists are the first random ones, up to the one with which
-/// every call has been met.
+/// How many wrong lines were not seen. The lists are the first random ones, until every call has
+/// been met.
 pub fn unseen() -> u64 {
     let mut seen = Seen {
         wrong: 0,
         unseen: 0,
     };
-    // Where nothing was called, every case is at zero.
+    // If nothing was called, every case is at zero.
     assert!(Coverage::new().at_zero().len() > NAMES.len());
     let mut met = [false; NAMES.len()];
     for number in 0.. {

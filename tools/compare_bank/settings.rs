@@ -5,11 +5,11 @@ use crate::timings::{dshot600, EQUAL, ODD};
 
 pub struct Settings {
     pub timing: [u16; 4],
-    /// What the lanes answer, where the bank is to be turned bidirectional at its start.
+    /// What the lanes answer, if the bank is to be turned bidirectional at its start.
     pub receives: Option<bool>,
-    /// Of a hundred calls, how many go on with the frame.
+    /// How many of a hundred calls go on with the frame.
     pub onward: usize,
-    /// One in so many of those goes wrong.
+    /// One in this many of those goes wrong.
     pub fault: usize,
     /// Counts start near their limits.
     pub full_counts: bool,
@@ -31,7 +31,7 @@ impl Settings {
     }
 }
 
-/// Mostly that of DShot600.
+/// A timing, mostly that of DShot600.
 fn timing(random: &mut Random) -> [u16; 4] {
     match random.below(8) {
         0 => ODD[random.below(ODD.len())],

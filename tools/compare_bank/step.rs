@@ -1,4 +1,4 @@
-//! A call with the bank's fields before it and what it gave, and what can be told of it.
+//! A call with the bank's fields before it and what it gave, and what can be said of it.
 
 use crate::call::{Call, Service, Status};
 use crate::outcome::Outcome;
@@ -16,7 +16,7 @@ impl Step<'_> {
         &self.outcome.fields
     }
 
-    /// Of a call whose answer starts with a refusal's number.
+    /// Whether this is the call with the code `of`, and its answer starts with `number`.
     pub fn refused(&self, of: u64, number: u64) -> bool {
         code(self.call) == of && self.outcome.answer[0] == number
     }
@@ -64,7 +64,7 @@ impl Step<'_> {
         self.after().requested_values != [0; 4]
     }
 
-    /// A frame with a command, after which the run is still there, be it spent or not.
+    /// A frame with a command. After it the run is still there, spent or not.
     pub fn command_sent(&self) -> bool {
         self.frame_started() && self.after().command_sequence.is_some()
     }
@@ -85,7 +85,7 @@ impl Step<'_> {
         refused.then(lane).flatten()
     }
 
-    /// An interrupt in a bank that was busy, for a lane that was not done.
+    /// An interrupt in a busy bank, for a lane that was not done.
     pub fn awaited(&self) -> bool {
         let done = |lane: usize| self.before.completion_mask >> lane & 1 == 1;
         let open = self.interrupt().is_some_and(|(lane, ..)| !done(lane));

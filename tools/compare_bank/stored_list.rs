@@ -1,6 +1,6 @@
 //! The stored list: scenes of the bank's events, counts and refusals, one after the other, each on
-//! banks of its own. Together they meet every case that `coverage.rs` counts, so that no word of a
-//! line can be another one and not be seen.
+//! banks of its own. Together they meet every case that `coverage.rs` counts. So if a word of a
+//! line were another one, it would be seen.
 
 use crate::script::Script;
 use crate::{scenes_faults, scenes_frames, scenes_refusals};

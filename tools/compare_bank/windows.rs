@@ -15,7 +15,7 @@ pub struct Window {
 }
 
 impl Window {
-    /// Levels of a window, seen at the pins of the mask alone.
+    /// Levels of a window, seen only at the pins of the mask.
     pub fn of(levels: &[bool], mask: u16) -> Self {
         Self {
             present: true,
@@ -34,13 +34,13 @@ impl Window {
         Self::of(&levels(lead, &exact(word), Ending::Closed, WINDOW), mask)
     }
 
-    /// So many runs of one bit, and then the last level to the end.
+    /// A number of runs of one bit, and then the last level to the end.
     pub fn bits(bits: usize, mask: u16) -> Self {
         let times = vec![captures::BIT; bits];
         Self::of(&levels(10, &times, Ending::Open, WINDOW), mask)
     }
 
-    /// The same samples, but the hardware has no capture to show.
+    /// The same samples, but the hardware has no capture.
     pub fn absent(self) -> Self {
         Self {
             present: false,
@@ -63,7 +63,7 @@ impl Service {
     pub fn with_samples(self, samples: &[u16]) -> Self {
         let run = |run: &[u16]| (run[0], run.len());
         let mut runs: Vec<_> = samples.chunk_by(|a, b| a == b).map(run).collect();
-        // Zeros at the end need not be said.
+        // Zeros at the end need not be written.
         runs.pop_if(|(sample, _)| *sample == 0);
         Self {
             capture_length: samples.len(),

@@ -1,4 +1,4 @@
-//! The words that a line can tell, so that a list can be asked to tell each of them.
+//! The words that a line can have. `coverage.rs` counts how often the lists have each of them.
 
 use crate::call::NAMES;
 use crate::outcome::{lane, replies};
@@ -6,7 +6,7 @@ use crate::step::Step;
 use crate::write_call::code;
 use dshot_bank::Fields;
 
-/// What a number is of, and the number; of some words there are two or three.
+/// What a number belongs to, and the number. Some words have two or three numbers.
 pub type Word = (&'static str, Vec<u64>);
 
 /// The answers of the calls that have few of them, by code.
@@ -35,7 +35,7 @@ const FLAGS: [&str; 5] = [
     "replies_waiting",
 ];
 
-/// Refusal and kind of a lane's reply: the source reads with EDT off.
+/// Refusal and kind of a lane's reply. The source reads with EDT off.
 const REPLIES: [[u64; 2]; 7] = [[0, 0], [0, 8], [7, 0], [8, 0], [9, 0], [10, 0], [11, 0]];
 
 /// Orders by kind, to each lane and to all.
