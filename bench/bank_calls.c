@@ -1,8 +1,9 @@
 /*
- * The cycles of bank.rs as a host in C makes them: it keeps the bank's state in slots, reads its hardware's answers
- * from registers, makes one call for each throttle, service and interrupt, and writes every order to a register.
+ * The cycles of bank.rs as a host in C makes them. It keeps the bank's state in slots, and reads its hardware's
+ * answers from registers. It makes one call for each throttle, service and interrupt, and writes every order to a
+ * register.
  *
- * It is built twice: for measuring, and with SUMMED, where the orders are added up, for comparing.
+ * It is built twice. One build is for measuring. The other, with SUMMED, adds the orders up, for comparing.
  */
 #include "bank_calls.h"
 #include "kuzhenga.h"

@@ -1,5 +1,5 @@
-/* The calls of the program bank_lists: each takes the numbers of a line, calls the library, and keeps what that
- * gave. What the numbers are is told in crates/dshot_bank_cases/src, in the files that calls.rt names. */
+/* The calls of the program bank_lists. Each takes the numbers of a line, calls the library, and keeps what that gave.
+ * In crates/dshot_bank_cases/src, the files that calls.rt names say what the numbers are. */
 #include <stdio.h>
 #include <stdlib.h>
 #include <string.h>
@@ -294,8 +294,8 @@ static int set_reply_stats(struct kept *kept, const struct line *line, struct ou
 
 /* ---- the call of a code --------------------------------------------------------------------------------------- */
 
-/* What it takes has a letter for each number: f a flag, b 8 bits, h 16, w 32, l 64, s a slot of a buffer, p a part
- * of a buffer, c samples of a capture. More numbers may come at a +. */
+/* A letter stands for each number that a call takes. f is a flag. b, h, w and l are 8, 16, 32 and 64 bits. s is a slot
+ * of a buffer, p a part of a buffer, and c the samples of a capture. More numbers may come at a +. */
 static const struct {
     call *make;
     const char *takes;

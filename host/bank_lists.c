@@ -1,10 +1,11 @@
-/* Makes the calls of a list on a bank, and prints what each gave, as crates/dshot_bank_cases does, by the calls for C.
- * Every field of the bank is read out of its slots (bank_places.h). List and text are described in that crate.
+/* Makes the calls of a list on a bank by the calls for C, and prints what each gave. crates/dshot_bank_cases does the
+ * same, and describes list and text. Every field of the bank is read out of its slots (bank_places.h).
  *
  *   bank_lists <LIST
  *
- * Exit status: 0 the list is done, or a line cannot be read, which the text tells; 1 a call gave what its header
- * does not name, or the text cannot be written.
+ * Exit status:
+ *   0  The list is done, or a line cannot be read. The text says which.
+ *   1  A call gave what its header does not name, or the text cannot be written.
  */
 #include <inttypes.h>
 #include <stdio.h>

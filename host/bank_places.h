@@ -1,5 +1,5 @@
-/* For tests alone: where each field of a bank lies in its slots, as crates/bank_slots_spec/specs/Places.antt has it. A
- * host needs none of it, and it may change with the version: include/kuzhenga.h does not tell it. */
+/* For tests only. It says where each field of a bank lies in its slots, as crates/bank_slots_spec/specs/Places.antt
+ * does. A host needs none of it. It may change with the version, so include/kuzhenga.h does not have it. */
 #ifndef BANK_PLACES_H
 #define BANK_PLACES_H
 

@@ -1,5 +1,5 @@
-/* For test hosts: compares numbers, and tells those that are not as they should be. If WRONG stands in the environment,
- * each is compared with one more than it should be, so that the host can be seen to fail.
+/* For test hosts. Compares numbers, and prints those that are wrong. If WRONG stands in the environment, each number
+ * is compared with one more than it should be. So the host can be seen to fail.
  */
 #ifndef EXPECT_H
 #define EXPECT_H

@@ -1,4 +1,4 @@
-/* Shows by calls what include/kuzhenga.h says in words, where the other hosts do not, and fails where it is not so.
+/* Shows by calls what include/kuzhenga.h says in words, if no other host shows it. If something is not so, it fails.
  *
  *   facts
  */

@@ -1,7 +1,8 @@
-/* Calls every exported function with slices of no, too few, enough and too many elements and random contents. It fails
- * where a call returns a number that its header does not name, or takes a slice of another length. It fails where a
- * call changes a slice that it was lent to read, or any when it refuses. It fails where orders, replies or a command
- * are not as the header says. Each slice ends where a page begins that may not be touched.
+/* Calls every exported function with slices of no, too few, enough and too many elements and random contents. Each
+ * slice ends where a page begins that may not be touched. It fails in these cases:
+ *   - A call returns a number that its header does not name, or takes a slice of another length.
+ *   - A call changes a slice that it was lent to read, or refuses and changes any slice.
+ *   - Orders, replies or a command are not as the header says.
  *
  *   fuzz [ROUNDS [SEED]]
  */

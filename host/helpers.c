@@ -1,5 +1,5 @@
-/* Uses the header's helpers and constants as a host does, in C and in C++, without the archive. It fails where one gives
- * another number than it should.
+/* Uses the header's helpers and constants as a host does, in C and in C++, without the archive. If one gives a wrong
+ * number, it fails.
  *
  *   helpers
  */

@@ -1,5 +1,5 @@
 /* An example host. It lists a capture file, then drives two frame sets of a bank of four motors. The simulated ESC
- * replies in place of hardware. The wire of motor 3 is pulled, and at last an order fails.
+ * replies in place of hardware. The wire of motor 3 is pulled. At the end an order fails.
  *
  *   host CAPTURE
  */

@@ -1,10 +1,15 @@
-/* The bank's calls, with a wrong number on purpose: the linker's --wrap sends each call of a host here, where it is
+/* The bank's calls, with a wrong number on purpose. The linker's --wrap sends each call of a host here. The call is
  * made, and then one number of what it gave is changed. host/seen_to_fail links hosts with this.
  *
- * In the environment WRONG has a call's name, without `kuzhenga_`, and a place. Of a call that is done 0 is what it
- * returned, 1 and up are slots that it wrote, one slice after the other, -1 is a slot that it was lent to read, and
- * -2 the one behind its last slice. Of one that refuses -3 is what it returned, and -4 a slot that it was lent to
- * write. A host that meets no such number ends with status 77.
+ * In the environment WRONG has a call's name, without `kuzhenga_`, and a place. If the call is done, the places are:
+ *   0         what it returned
+ *   1 and up  the slots that it wrote, one slice after the other
+ *   -1        a slot that it was lent to read
+ *   -2        the slot behind its last slice
+ * If the call refuses, they are:
+ *   -3        what it returned
+ *   -4        a slot that it was lent to write
+ * If a host meets no such number, it ends with status 77.
  */
 #include <stdio.h>
 #include <stdlib.h>

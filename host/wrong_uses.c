@@ -1,5 +1,5 @@
-/* Uses of the header that must not compile, one for each number of WRONG above 0; with WRONG 0 it compiles. host/check
- * tries each as C and as C++, with no warning made an error. */
+/* Uses of the header that must not compile, one for each number of WRONG above 0. With WRONG 0 it compiles. host/check
+ * tries each as C and as C++, and makes no warning an error. */
 #include "kuzhenga.h"
 
 uint32_t use(const uint16_t *bank, const uint16_t *slots, struct kuzhenga_reading reading,
