@@ -60,7 +60,8 @@ $(made_with): FORCE
 	@{ printf '%s\n' "$$words" && sha256sum <'$(archive)'; } >$@.new
 	@if cmp -s $@.new $@; then rm $@.new; else mv $@.new $@; fi
 
-$(program): $(wildcard tools/kuzhenga/*.c tools/kuzhenga/*.h) include/kuzhenga.h $(made_with)
+# The folder too: a file may have been removed from it.
+$(program): $(wildcard tools/kuzhenga tools/kuzhenga/*.c tools/kuzhenga/*.h) include/kuzhenga.h $(made_with)
 	@mkdir -p $(@D)
 	$(CC) -std=c11 $(CFLAGS) $(warnings) -Iinclude $(LDFLAGS) -o $@ tools/kuzhenga/*.c '$(archive)'
 

@@ -27,7 +27,7 @@ __all__ = [
     "period", "read_bytes", "read_file", "read_samples",
 ]
 
-# Numbers of include/kuzhenga.h; python/test_kuzhenga.py compares them with it.
+# Numbers of include/kuzhenga.h; python/test_header.py compares them with it.
 FILE_SAMPLES = 4096
 FILE_BYTES = 12294
 LINE_BYTES = 32
