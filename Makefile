@@ -1,6 +1,7 @@
 # Builds the program `kuzhenga` and the shared library, and installs them with the archive. GNU make.
 #
 #   make            the archive, the program and the shared library
+#   make archive    just the archive, target/staticlib/libkuzhenga.a
 #   make kuzhenga   just the program, target/kuzhenga/kuzhenga
 #   make check      all tests: .ci/run
 #   make install    copies all of it to PREFIX; what is not built yet is built first
@@ -26,9 +27,11 @@ made_with := target/make/made_with
 archive := $(if $(ARCHIVE),$(ARCHIVE),target/staticlib)/libkuzhenga.a
 
 .DELETE_ON_ERROR:
-.PHONY: all kuzhenga check install uninstall clean FORCE
+.PHONY: all archive kuzhenga check install uninstall clean FORCE
 
 all: $(program) $(shared)
+
+archive: $(archive)
 
 kuzhenga: $(program)
 
