@@ -1,5 +1,5 @@
 /* The calls of the program bank_lists. Each takes the numbers of a line, calls the library, and keeps what that gave.
- * In crates/dshot_bank_cases/src, the files that calls.rt names say what the numbers are. */
+ * crates/dshot_bank_cases/src says what the numbers are, in the files that calls.rt names. */
 #include <stdio.h>
 #include <stdlib.h>
 #include <string.h>
@@ -9,7 +9,7 @@
 
 enum { MOST_SAMPLES = 700, FIRST_LOOK = 11 };
 
-/* A list may name a lane that is too large by far, and the call is to get it whole. */
+/* A list may name a lane that is far too large. The call must get the whole number. */
 _Static_assert(SIZE_MAX >= UINT64_MAX, "a lane takes 64 bits");
 
 #define BANK kept->bank, KUZHENGA_BANK_SLOTS
@@ -25,7 +25,7 @@ static void end(const char *what, unsigned long number)
     exit(1);
 }
 
-/* For a call that has nothing to refuse where every length is right: it has no place in the text. */
+/* For a call that cannot refuse if every length is right. The text has no place for its refusal. */
 static void must(uint32_t refusal)
 {
     if (refusal != KUZHENGA_DONE)
@@ -38,7 +38,7 @@ static int answer(struct outcome *outcome, uint64_t number)
     return 1;
 }
 
-/* The text numbers events from 1, and a refused call has none. */
+/* The text numbers events from 1. A refused call has none. */
 static int answer_event(struct outcome *outcome, uint32_t refusal, uint16_t event)
 {
     answer(outcome, refusal);
@@ -54,7 +54,7 @@ static void keep_orders(struct outcome *outcome, const uint16_t *told, size_t mo
     memcpy(outcome->order, told + KUZHENGA_FIRST_ORDER, orders * sizeof *told);
 }
 
-/* Numbers that are known to fit. */
+/* Takes numbers that are known to fit. */
 static void narrow(uint16_t *out, const uint64_t *given, size_t count)
 {
     for (size_t i = 0; i < count; i++)
@@ -116,7 +116,7 @@ static int cancel_telemetry_request(struct kept *kept, const struct line *line, 
     return answer(outcome, kuzhenga_bank_cancel_telemetry_request(BANK));
 }
 
-/* The text has 0 for no lane, and one more than the lane. */
+/* The text has 0 for no lane, else the lane + 1. */
 static int take_telemetry_request_sent(struct kept *kept, const struct line *line, struct outcome *outcome)
 {
     uint16_t motor[KUZHENGA_REQUEST_SENT_SLOTS];
@@ -127,7 +127,8 @@ static int take_telemetry_request_sent(struct kept *kept, const struct line *lin
 
 /* ---- services and interrupts ---------------------------------------------------------------------------------- */
 
-/* Writes out runs, each a sample and how many times it comes, and leaves the rest. 0 where there is no room. */
+/* Writes out runs: each is a sample and how many times it comes. The samples after them stay. If there is no room, it
+ * returns 0. */
 static int unroll(uint16_t *samples, size_t room, const uint64_t *runs, size_t count)
 {
     size_t n = 0;
@@ -140,8 +141,8 @@ static int unroll(uint16_t *samples, size_t room, const uint64_t *runs, size_t c
     return 1;
 }
 
-/* The text has no buffers of orders. Each is what the lane's mark says after the call: what it sends from, if it took
- * it, else the other. */
+/* The text does not have the buffers of orders. After the call, the lane's mark says which buffer it must be. If the
+ * lane took it, it sends from that buffer. If not, it sends from the other. */
 static void check_buffers(const uint16_t *bank, const uint16_t *lanes, const uint16_t *told)
 {
     for (size_t i = 0; i < told[KUZHENGA_ORDERS]; i++) {
@@ -154,7 +155,7 @@ static void check_buffers(const uint16_t *bank, const uint16_t *lanes, const uin
     }
 }
 
-/* Of each buffer as much is lent as the line says. */
+/* Lends as much of each buffer as the line says. */
 static int service(struct kept *kept, const struct line *line, struct outcome *outcome)
 {
     const uint64_t *given = line->given;
@@ -185,7 +186,7 @@ static int on_dma_interrupt(struct kept *kept, const struct line *line, struct o
 
 /* ---- looks ---------------------------------------------------------------------------------------------------- */
 
-/* What is told of a lane besides its refusal is nothing if it has one, and it has one if no replies are held. */
+/* If a lane has a refusal, its other slots must be 0. If no replies are held, each lane has a refusal. */
 static void check_lane(struct kuzhenga_replies taken, size_t lane)
 {
     const uint16_t *slots = taken.slots + KUZHENGA_LANE_REPLY + KUZHENGA_LANE_REPLY_SLOTS * lane;
@@ -195,7 +196,7 @@ static void check_lane(struct kuzhenga_replies taken, size_t lane)
         end("a reading beside a refusal, lane", lane);
 }
 
-/* 0 where none are held, else 1 and for each lane the refusal, the kind and the number. */
+/* The answer is 0 if none are held. Otherwise it is 1, and for each lane the refusal, the kind and the number. */
 static int take_replies(struct kept *kept, const struct line *line, struct outcome *outcome)
 {
     struct kuzhenga_replies taken;
@@ -217,7 +218,7 @@ static int take_replies(struct kept *kept, const struct line *line, struct outco
 static const struct {
     uint32_t (*call)(const uint16_t *bank, size_t bank_len, uint16_t *out, size_t out_len);
     size_t slots;
-    int counts; /* whether each number takes two */
+    int counts; /* whether each number takes two slots */
 } looks[] = {
     {kuzhenga_bank_is_bidirectional, 1, 0},
     {kuzhenga_bank_is_faulted, 1, 0},
@@ -230,7 +231,7 @@ static const struct {
 static int look(struct kept *kept, const struct line *line, struct outcome *outcome)
 {
     size_t which = line->code - FIRST_LOOK;
-    uint16_t out[KUZHENGA_REPLY_STATS_SLOTS]; /* the most */
+    uint16_t out[KUZHENGA_REPLY_STATS_SLOTS]; /* the most slots of a look */
     must(looks[which].call(BANK, out, looks[which].slots));
     size_t numbers = looks[which].counts ? looks[which].slots / 2 : looks[which].slots;
     for (size_t i = 0; i < numbers; i++)
@@ -238,7 +239,7 @@ static int look(struct kept *kept, const struct line *line, struct outcome *outc
     return 1;
 }
 
-/* The refusal, and the slots where there is none. */
+/* The answer is the refusal, or 0. If it is 0, the slots follow. */
 static int sending(struct kept *kept, const struct line *line, struct outcome *outcome)
 {
     const uint64_t *given = line->given;
@@ -281,7 +282,7 @@ static int set_stats(struct kept *kept, const struct line *line, struct outcome 
     return 1;
 }
 
-/* A line has one count of the four lanes after the other, the slots one lane after the other. */
+/* A line has one count of all four lanes after another. The slots have one lane after another. */
 static int set_reply_stats(struct kept *kept, const struct line *line, struct outcome *outcome)
 {
     (void)outcome;
@@ -294,8 +295,8 @@ static int set_reply_stats(struct kept *kept, const struct line *line, struct ou
 
 /* ---- the call of a code --------------------------------------------------------------------------------------- */
 
-/* A letter stands for each number that a call takes. f is a flag. b, h, w and l are 8, 16, 32 and 64 bits. s is a slot
- * of a buffer, p a part of a buffer, and c the samples of a capture. More numbers may come at a +. */
+/* `takes` has a letter for each number. f is a flag. b, h, w and l are numbers of 8, 16, 32 and 64 bits. s is a slot of
+ * a buffer, p a part of a buffer, and c samples of a capture. If `takes` ends with +, more numbers may follow. */
 static const struct {
     call *make;
     const char *takes;

@@ -1,11 +1,10 @@
-/* Makes the calls of a list on a bank by the calls for C, and prints what each gave. crates/dshot_bank_cases does the
- * same, and describes list and text. Every field of the bank is read out of its slots (bank_places.h).
+/* Makes the calls of a list on a bank through C, and prints what each gave, as crates/dshot_bank_cases does. It reads
+ * every field of the bank out of its slots (bank_places.h). That crate describes the list and the text.
  *
  *   bank_lists <LIST
  *
- * Exit status:
- *   0  The list is done, or a line cannot be read. The text says which.
- *   1  A call gave what its header does not name, or the text cannot be written.
+ * Exit status: 0 if the list is done, or if a line cannot be read, which the text says. 1 if a call gave what the
+ * header does not name, or if the text cannot be written.
  */
 #include <inttypes.h>
 #include <stdio.h>
@@ -16,9 +15,9 @@
 
 enum {
     MOST_BYTES = 65536,               /* a list has fewer */
-    MOST_NUMBERS = 18 + 2 * 700,      /* of a line: eighteen, and two for each of 700 runs */
+    MOST_NUMBERS = 18 + 2 * 700,      /* numbers of a line: eighteen, and two for each of 700 runs */
     STATS = KUZHENGA_STATS_SLOTS / 2, /* the counts of a bank */
-    LANE_COUNTS = 3                   /* and those of a lane's replies */
+    LANE_COUNTS = 3                   /* the counts of a lane's replies */
 };
 
 /* ---- the text ------------------------------------------------------------------------------------------------- */
@@ -39,7 +38,7 @@ static uint64_t long_at(const uint16_t *from)
     return word_at(from) | (uint64_t)word_at(from + 2) << 32;
 }
 
-/* Each number has a space before it; a part without numbers has just the space. */
+/* Each number has a space before it. A part without numbers has only the space. */
 static void bar(void)
 {
     printf(" |");
@@ -74,7 +73,7 @@ static void put_lease(const uint16_t *bank)
         number(over - 1);
 }
 
-/* The text has the refusal, or 0, before the kind. The slots have a refusal as a kind. */
+/* In the text the refusal, or 0, stands before the kind. In the slots a refusal is a kind. */
 static void put_reply(const uint16_t *lane)
 {
     int refused = lane[0] >= STORED_REFUSAL;
@@ -99,7 +98,7 @@ static void put_counts(const uint16_t *bank)
             number(word_at(bank + PLACE_REPLIES + REPLY_SLOTS * lane + REPLY_COUNTS + 2 * which));
 }
 
-/* Flags and lanes are printed as the slots have them, so that one that is not as the places say would show. */
+/* Prints flags and lanes as the slots have them. So a slot that is not as bank_places.h says would be seen. */
 static void put_fields(const uint16_t *bank)
 {
     slots(bank + PLACE_TIMING, KUZHENGA_TIMING_SLOTS);
@@ -146,8 +145,8 @@ static void put_changed(const struct kept *before, const struct kept *after)
 
 /* ---- a line --------------------------------------------------------------------------------------------------- */
 
-/* Reads digits, at least one, and answers where they end. NULL where there is none, or the number has more than 64
- * bits. */
+/* Reads digits, at least one, and returns where they end. If there is no digit, or the number has more than 64 bits, it
+ * returns NULL. */
 static const char *read_number(const char *at, const char *end, uint64_t *value)
 {
     const char *from = at;
@@ -161,7 +160,8 @@ static const char *read_number(const char *at, const char *end, uint64_t *value)
     return at == from ? NULL : at;
 }
 
-/* Reads numbers with one space between them, and answers how many there are: 0 where the line has anything else. */
+/* Reads numbers with one space between them, and returns how many there are. If the line has anything else, it returns
+ * 0. */
 static size_t read_line(const char *at, const char *end, uint64_t *numbers)
 {
     for (size_t n = 0; n < MOST_NUMBERS; n++) {
@@ -176,7 +176,7 @@ static size_t read_line(const char *at, const char *end, uint64_t *numbers)
     return 0;
 }
 
-/* A new bank starts with buffers of zeros. They are there before the copy is taken, so its line shows no slot. */
+/* A new bank starts with buffers of zeros. They are set before the copy is taken, so its line shows no changed slot. */
 static void clear_buffers(struct kept *kept)
 {
     memset(kept->first, 0, sizeof kept->first);

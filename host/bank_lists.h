@@ -5,12 +5,12 @@
 #include "kuzhenga.h"
 
 enum {
-    ROOM = 80,         /* slots of a sequence buffer: more than a bank takes, so that it can be lent too many */
-    MOST_ANSWERS = 17, /* numbers of an answer: those of a view */
+    ROOM = 80,         /* slots of a sequence buffer: more than a bank takes, so that a list can lend too many */
+    MOST_ANSWERS = 17, /* the most numbers in an answer: those of a view */
     MOST_ORDERS = 9
 };
 
-/* A number of 32 bits out of two slots. */
+/* The number of 32 bits in two slots. */
 static inline uint32_t word_at(const uint16_t *from)
 {
     return (uint32_t)from[0] | (uint32_t)from[1] << 16;
@@ -39,10 +39,10 @@ struct outcome {
     uint16_t duties[KUZHENGA_LANES];
 };
 
-/* A bank of a timing of zeros, which a list finds before its first call. */
+/* Makes a bank with a timing of zeros. A list starts with it. */
 void begin(struct kept *kept);
 
-/* Makes the call of a line. 0 where the line is none: then nothing is changed. */
+/* Makes the call of a line. If the line is no call, it returns 0 and changes nothing. */
 int make_call(struct kept *kept, const struct line *line, struct outcome *outcome);
 
 #endif

@@ -1,5 +1,5 @@
-/* For tests only. It says where each field of a bank lies in its slots, as crates/bank_slots_spec/specs/Places.antt
- * does. A host needs none of it. It may change with the version, so include/kuzhenga.h does not have it. */
+/* Only for tests: where each field of a bank lies in its slots, as in crates/bank_slots_spec/specs/Places.antt. A host
+ * needs none of it, and it may change with the version. So include/kuzhenga.h does not say it. */
 #ifndef BANK_PLACES_H
 #define BANK_PLACES_H
 
@@ -17,19 +17,19 @@ enum {
     PLACE_RECEIVING = 26,
     PLACE_REPLIES_WAITING = 27,
     PLACE_REPLIES_HELD = 28,
-    PLACE_IN_SECOND = 29, /* for each lane 1 if it sends from the second buffer */
+    PLACE_IN_SECOND = 29, /* for each lane: 1 if it sends from the second buffer, else 0 */
     PLACE_COMPLETION_MASK = 33,
     PLACE_FRAME_STARTED = 35,
     PLACE_COUNTS = 39,
     PLACE_REPLIES = 61
 };
 
-/* Of a lane's slots, after PLACE_REPLIES: the reply's kind, its number, and three counts. */
+/* A lane's slots from PLACE_REPLIES on: the reply's kind, its number, and three counts. */
 enum {
     REPLY_SLOTS = 9,
     REPLY_NUMBER = 1,
     REPLY_COUNTS = 3,
-    STORED_REFUSAL = 16 /* a kind from there on is a refusal, 16 more than its number */
+    STORED_REFUSAL = 16 /* a kind of 16 or more is a refusal: 16 + its number */
 };
 
 #endif

@@ -1,5 +1,5 @@
-/* For test hosts. Compares numbers, and prints those that are wrong. If WRONG stands in the environment, each number
- * is compared with one more than it should be. So the host can be seen to fail.
+/* For test hosts. It compares numbers, and prints those that are not as they should be. If WRONG is set in the
+ * environment, each number is compared with one more than it should be. So the host can be seen to fail.
  */
 #ifndef EXPECT_H
 #define EXPECT_H
@@ -23,7 +23,7 @@ static void expect(const char *what, unsigned long long given, unsigned long lon
         printf("%s: %llu, and should be %llu\n", what, given, wanted);
 }
 
-/* The status of the host. */
+/* The host's exit status. */
 static int expected(void)
 {
     printf("%lu compared, %lu differ\n", compared, failures);

@@ -1,4 +1,4 @@
-/* Shows by calls what include/kuzhenga.h says in words, if no other host shows it. If something is not so, it fails.
+/* Shows by calls what include/kuzhenga.h says in words and the other hosts do not show. It fails if a fact is not so.
  *
  *   facts
  */
@@ -28,7 +28,7 @@ static void begin(void)
     }
 }
 
-/* The event. */
+/* Returns the event. */
 static unsigned serve(uint64_t now_ms)
 {
     expect("service", kuzhenga_bank_service(bank, KUZHENGA_BANK_SLOTS, now_ms, lanes, KUZHENGA_HARDWARE_SLOTS, first,
@@ -111,11 +111,11 @@ static void periods(void)
     }
 }
 
-/* A reply of 0xfff, at the highest lead that fits, into samples that hold something else. */
+/* A reply of 0xfff, with the longest lead that fits, into samples that hold something else. */
 static void simulated(void)
 {
     uint16_t all[KUZHENGA_WINDOW_SAMPLES];
-    const uint32_t mask = 0x10108; /* its low sixteen bits count */
+    const uint32_t mask = 0x10108; /* only its low sixteen bits count */
     struct kuzhenga_word word;
     memset(all, 0x5a, sizeof all);
     expect("simulate", kuzhenga_simulate_reply(all, KUZHENGA_WINDOW_SAMPLES, 0xfff,
@@ -129,7 +129,7 @@ static void simulated(void)
                                                 KUZHENGA_WORD_SLOTS), KUZHENGA_NO_REPLY);
 }
 
-/* The largest number that a line has. */
+/* The line with the largest number. */
 static void line(void)
 {
     static uint8_t file[KUZHENGA_FILE_BYTES];
@@ -144,7 +144,7 @@ static void line(void)
 
 /* ---- replies of a bank ---------------------------------------------------------------------------------------- */
 
-/* Lane 1 has no capture, lane 2 a mask of 0, and lane 3 a wire that is pulled. */
+/* Lane 1 has no capture, lane 2 has a mask of 0, and the wire of lane 3 is pulled. */
 static void stored(void)
 {
     begin();
@@ -170,7 +170,7 @@ static void put_word(size_t place, uint32_t count)
     bank[place + 1] = (uint16_t)(count >> 16);
 }
 
-/* Each count one before it wraps; lane 0's reply is valid, lane 1's is not. */
+/* Each count is one before it wraps. Lane 0's reply is valid, lane 1's is not. */
 static void counts(void)
 {
     struct kuzhenga_stats stats;
@@ -198,7 +198,7 @@ static void counts(void)
 
 /* ---- faults and runs ------------------------------------------------------------------------------------------ */
 
-/* dma_error 1 latches whatever the state: in flight, the lane done, no set in flight. */
+/* dma_error 1 latches a fault in any state: set in flight, lane done, no set in flight. */
 static void faults(void)
 {
     begin();
@@ -226,7 +226,7 @@ static uint16_t pending(void)
     return flag[0];
 }
 
-/* A run whose index is above 1 is spent: it is pending until a frame starts, and sends nothing. */
+/* If a run's index is above 1, the run is spent. It is pending until a frame starts, and sends nothing. */
 static void runs(void)
 {
     static const uint16_t indexes[] = {2, 255, 256, 257, 65535};
@@ -235,7 +235,7 @@ static void runs(void)
         uint16_t none[KUZHENGA_SEQUENCE_SLOTS], sent[KUZHENGA_SEQUENCE_SLOTS];
         begin();
         cycle(0);
-        memcpy(none, second, sizeof none); /* lane 0's frame of zeros */
+        memcpy(none, second, sizeof none); /* lane 0's frame of value 0 */
         expect("a run", kuzhenga_bank_command_special(bank, KUZHENGA_BANK_SLOTS, 0, run, KUZHENGA_RUN_SLOTS), 0);
         expect("pending", pending(), 1);
         cycle(1);

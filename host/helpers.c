@@ -1,5 +1,5 @@
-/* Uses the header's helpers and constants as a host does, in C and in C++, without the archive. If one gives a wrong
- * number, it fails.
+/* Uses the header's helpers and constants as a host does, in C and in C++, without the archive. It fails if one of them
+ * gives another number than it should.
  *
  *   helpers
  */
@@ -41,7 +41,7 @@ static void replies(void)
     expect("the last lane's number", kuzhenga_lane_number(some, SIZE_MAX), KUZHENGA_NO_NUMBER);
     for (size_t n = 0; n < KUZHENGA_LANES; n++)
         expect("a number where none are held", kuzhenga_lane_number(none, n), KUZHENGA_NO_NUMBER);
-    /* What a call that was refused leaves of zeros is no rotor at rest. */
+    /* If a call is refused and leaves zeros, they must not read as a rotor at rest. */
     const struct kuzhenga_replies zeros = {{0}};
     expect("the refusal of zeros", kuzhenga_lane_refusal(zeros, 0), KUZHENGA_NO_REPLY);
     expect("the number of zeros", kuzhenga_lane_number(zeros, 0), KUZHENGA_NO_NUMBER);
@@ -84,7 +84,7 @@ static void orders(void)
         }
 }
 
-/* Each refusal has a line of its own, and no other number has one. */
+/* Each refusal has a text of its own. All other numbers share one text. */
 static void texts(void)
 {
     for (uint32_t a = KUZHENGA_DONE; a <= KUZHENGA_REPLIES_UNSUPPORTED; a++)
@@ -94,7 +94,7 @@ static void texts(void)
     expect("the text of 18", strcmp(kuzhenga_refusal_text(18), "the bank has latched a fault") == 0, 1);
 }
 
-/* Constants of different groups, added and compared as hosts do. */
+/* Adds and compares constants of different groups, as hosts do. */
 static void sums(void)
 {
     uint16_t answers[KUZHENGA_SERVICE_SLOTS + KUZHENGA_INTERRUPT_SLOTS + KUZHENGA_REPLIES_SLOTS] = {0};

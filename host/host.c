@@ -1,5 +1,5 @@
 /* An example host. It lists a capture file, then drives two frame sets of a bank of four motors. The simulated ESC
- * replies in place of hardware. The wire of motor 3 is pulled. At the end an order fails.
+ * replies in place of hardware. The wire of motor 3 is pulled. In the end an order fails.
  *
  *   host CAPTURE
  */
@@ -11,7 +11,7 @@
 
 static uint32_t list_capture(FILE *f)
 {
-    static uint8_t file[KUZHENGA_FILE_BYTES + 1]; /* one more, so that a longer file is seen to be longer */
+    static uint8_t file[KUZHENGA_FILE_BYTES + 1]; /* one byte more, so that a longer file is seen to be longer */
     uint8_t line[KUZHENGA_LINE_BYTES];
     uint16_t written[1];
     size_t n = fread(file, 1, sizeof file, f);
@@ -41,7 +41,7 @@ static const char *const interrupt_events[] = {[KUZHENGA_COMPLETED] = "completed
                                                [KUZHENGA_INTERRUPT_FAULTED] = "faulted",
                                                [KUZHENGA_SPURIOUS] = "spurious"};
 
-/* On a carrier the i-th order goes to the timers and DMA streams; here it is printed. */
+/* On a carrier the i-th order goes to the timers and DMA streams. Here it is printed. */
 static void obey_one(const uint16_t *answer, unsigned i)
 {
     uint16_t order = answer[KUZHENGA_FIRST_ORDER + i];
@@ -100,7 +100,7 @@ static uint32_t serve(uint64_t now_ms)
     return r;
 }
 
-/* A stream completes, or is in error. */
+/* The lane's stream completes, or is in error. */
 static uint32_t interrupt(size_t motor, uint32_t dma_error)
 {
     uint16_t answer[KUZHENGA_INTERRUPT_SLOTS];
@@ -113,7 +113,7 @@ static uint32_t interrupt(size_t motor, uint32_t dma_error)
     return r;
 }
 
-/* Four streams complete: of the frame that was sent, or of the windows that were sampled. */
+/* Four streams complete. They send the frame, or they fill the windows. */
 static uint32_t complete_all(void)
 {
     for (unsigned n = 0; n < KUZHENGA_LANES; n++) {
@@ -124,7 +124,7 @@ static uint32_t complete_all(void)
     return KUZHENGA_DONE;
 }
 
-/* The simulated ESC answers on each lane's pin with a period of 1000, 2000 and 3000 microseconds. The samples of the
+/* The simulated ESC answers on each lane's pin, with a period of 1000, 2000 and 3000 microseconds. The samples of the
  * pulled wire stay as they are. */
 static uint32_t answer_all(void)
 {
@@ -172,7 +172,8 @@ static uint32_t print_replies(void)
     r = kuzhenga_bank_reply_stats(bank, KUZHENGA_BANK_SLOTS, counts.slots, KUZHENGA_REPLY_STATS_SLOTS);
     if (r != KUZHENGA_DONE)
         return r;
-    /* The first slot comes first: if none are held, no window was read since the last call, and there is no speed. */
+    /* Look at the first slot first. If no replies are held, no window was read since the last call, and there is no
+     * speed. */
     if (!kuzhenga_replies_held(taken)) {
         printf("replies: none held\n");
         return KUZHENGA_DONE;
@@ -219,7 +220,7 @@ static uint32_t drive(void)
         return r;
     if ((r = print_replies()) != KUZHENGA_DONE)
         return r;
-    /* Say that the order to start lane 2's stream failed: its stream is in error. That latches a fault. */
+    /* Suppose that the order to start lane 2's stream failed: the stream is in error. That latches a fault. */
     if ((r = interrupt(2, 1)) != KUZHENGA_DONE)
         return r;
     return serve(1002);

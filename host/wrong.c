@@ -1,15 +1,10 @@
-/* The bank's calls, with a wrong number on purpose. The linker's --wrap sends each call of a host here. The call is
- * made, and then one number of what it gave is changed. host/seen_to_fail links hosts with this.
+/* Makes one number of a call of the bank wrong on purpose. The linker's --wrap sends each call of a host here. The call
+ * is made here, and then one number of what it gave is changed. host/seen_to_fail links hosts with this file.
  *
- * In the environment WRONG has a call's name, without `kuzhenga_`, and a place. If the call is done, the places are:
- *   0         what it returned
- *   1 and up  the slots that it wrote, one slice after the other
- *   -1        a slot that it was lent to read
- *   -2        the slot behind its last slice
- * If the call refuses, they are:
- *   -3        what it returned
- *   -4        a slot that it was lent to write
- * If a host meets no such number, it ends with status 77.
+ * WRONG in the environment has a call's name, without `kuzhenga_`, and a place. If the call is done, place 0 is what it
+ * returned. Places from 1 on are the slots that it wrote, one slice after the other. Place -1 is a slot that it was
+ * lent to read, and -2 the slot behind its last slice. If the call refuses, place -3 is what it returned, and -4 a slot
+ * that it was lent to write. If a host meets no such number, it ends with status 77.
  */
 #include <stdio.h>
 #include <stdlib.h>
@@ -39,7 +34,7 @@ __attribute__((constructor)) static void begin_wrong(void)
     atexit(end);
 }
 
-/* Whether this call is the wrong one, and the place. */
+/* Returns whether this call is the wrong one, and gives the place. */
 static int asked(const char *name, long *place)
 {
     const char *wrong = getenv("WRONG");
@@ -56,7 +51,7 @@ static void change(const uint16_t *slot)
     *(uint16_t *)(uintptr_t)slot ^= 1;
 }
 
-/* The slot at a place, counted from 1; NULL where there is none. */
+/* Returns the slot at a place, counted from 1. If there is none, it returns NULL. */
 static const uint16_t *slot_at(const struct part *parts, size_t count, size_t place)
 {
     for (size_t i = 0; i < count; i++) {
@@ -67,7 +62,7 @@ static const uint16_t *slot_at(const struct part *parts, size_t count, size_t pl
     return NULL;
 }
 
-/* The slot to change, if there is one. */
+/* Returns the slot to change, if there is one. */
 static const uint16_t *slot_of(long place, int done, struct part shown, const struct part *lent, size_t count)
 {
     struct part last = lent[count - 1];
@@ -96,7 +91,7 @@ static uint32_t spoil(const char *name, uint32_t returned, struct part shown, co
     return returned;
 }
 
-/* A call: its name, what it takes, the same as it is handed on, a slice to read, and those to write. */
+/* A call: its name, its parameters, its arguments, a slice that it reads, and the slices that it writes. */
 #define WRAP(name, takes, passed, shown, ...)                                                                     \
     uint32_t __real_kuzhenga_##name takes;                                                                        \
     uint32_t __wrap_kuzhenga_##name takes;                                                                        \
@@ -111,7 +106,8 @@ static uint32_t spoil(const char *name, uint32_t returned, struct part shown, co
 #define PART(at, len) ((struct part){at, len})
 #define NONE PART(NULL, 0)
 
-/* After a service and an interrupt a bank's own slots are changed too. A host prints them after each call alike. */
+/* After a service or an interrupt, the bank's own slots are among those to change. A host prints them after every call
+ * in the same way, so these two calls are enough. */
 WRAP(bank_from_lanes, (const uint16_t *timing, size_t four, uint16_t *bank, size_t slots), (timing, four, bank, slots),
      PART(timing, four), NONE)
 WRAP(bank_enable_bidirectional, (uint16_t *bank, size_t slots, uint32_t receives), (bank, slots, receives), NONE, NONE)
