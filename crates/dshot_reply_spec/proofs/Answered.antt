@@ -1,4 +1,4 @@
--- What a call with an answer returns, and leaves in the buffers that it is lent.
+-- What a call returns for an answer, and what it leaves in the buffers that it is lent.
 -- Assumes nothing.
 use mathlib.Core.Path.{_≡_, sym, ap, _∙_}
 use mathlib.Core.List.{List}

@@ -1,5 +1,5 @@
--- How long a run lasts, and captures at 3 samples a bit that render a word in each way that document 01 allows, with what the reader's theorems
--- say of them.
+-- How long a run lasts. Captures at 3 samples a bit that render a word in each way that document 01 allows, and what the reader's theorems say of
+-- them.
 -- Assumes nothing.
 use mathlib.Core.Path.{_≡_, refl}
 use mathlib.Core.Logic.{_↔_}
@@ -49,7 +49,8 @@ least-samples = refl
 pub short-runs-read : (extended : Bool) → sampledReply 3 (captured 0 shortRuns []) 0x10 extended ≡ replyOf 0xfff extended
 short-runs-read extended = reply-reads 3 (lit< tt) (captured 0 shortRuns []) 0x10 extended 0xfff short-runs-render
 
--- value 0x999, every run but the last a sample long, a lead, and 150 samples from the start on: those past the 69 that are read are low
+-- Value 0x999, a lead, and 150 samples from the start on. Every run except the last is one sample too long. The samples past the 69 that are read are
+-- low.
 abbrev pub longRuns : List ℕ
 longRuns = 7 ∷ 10 ∷ 7 ∷ 10 ∷ 7 ∷ 10 ∷ 4 ∷ 7 ∷ 4 ∷ 3 ∷ []
 

@@ -1,4 +1,4 @@
--- A choice that is not one of its two answers is the other, and its test says so.
+-- If a choice is not one of its two answers, it is the other, and its test says so.
 -- Assumes nothing.
 use mathlib.Core.Path.{_≡_, refl}
 use mathlib.Core.Bool.{Bool, true, false}

@@ -1,4 +1,4 @@
--- Two neighbouring bits of a number of five or ten bits that change places, by tests that the prover computes.
+-- Two neighbouring bits of a number of five or ten bits change places. Shown by tests that the prover computes.
 -- Assumes nothing.
 use mathlib.Core.Path.{_≡_, sym, refl, ap, _∙_}
 use mathlib.Core.Bool.{Bool, true, false, not, Bool·beq}

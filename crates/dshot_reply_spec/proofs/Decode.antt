@@ -1,4 +1,4 @@
--- What four nibbles decode to, the symbols of a word, and that a word which decodes is the reply word of its value.
+-- What four nibbles decode to, and the symbols of a word. If a word decodes, it is the reply word of its value.
 -- Assumes nothing.
 use mathlib.Core.Path.{_≡_, sym, refl, ap, _∙_}
 use mathlib.Core.Logic.{_⊎_, inl, inr}

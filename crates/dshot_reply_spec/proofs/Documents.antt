@@ -1,4 +1,4 @@
--- The reply word, the line, the decoder and the readings are those that the documents describe (specs/Betaflight and specs/Edt).
+-- The reply word, the line, the decoder and the readings equal those of the documents (specs/Betaflight and specs/Edt).
 -- Assumes nothing.
 use mathlib.Core.Path.{_≡_, sym, refl, ap, _∙_}
 use mathlib.Core.Logic.{inl, inr, ⊎-elim}

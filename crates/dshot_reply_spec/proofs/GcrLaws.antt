@@ -1,4 +1,5 @@
--- The rule of the GCR code, by tests that the prover computes at each nibble and at each five bits: a symbol is read back as its nibble.
+-- The rule of the GCR code: a symbol is read back as its nibble. Shown by tests that the prover computes at each nibble and at each code of five
+-- bits.
 -- Assumes nothing.
 use mathlib.Core.Path.{_≡_}
 use mathlib.Core.Bool.{Bool, true}

@@ -1,4 +1,4 @@
--- Where a choice or a chain of steps ends in `given`: how its tests came out, and what each step was given.
+-- If a choice or a chain of steps ends in `given`: how its tests came out, and what each step was given.
 -- Assumes nothing.
 use mathlib.Core.Path.{_≡_, refl}
 use mathlib.Core.Logic.{_⊎_, inl, inr}

@@ -1,5 +1,5 @@
--- The terms of demand 3 hold of all that document 01 says, and not only of a part of it: of every capture whose runs last as they may, of every
--- edge that can move, and of every damage of a symbol.
+-- The terms of demand 3 hold of all that document 01 names, and not only of a part of it. They hold of every capture whose runs last as they may.
+-- They hold of every edge that can move, and of every damage to a symbol.
 -- Assumes nothing.
 use mathlib.Core.Path.{_≡_, sym, refl, ap, _∙_}
 use mathlib.Core.Logic.{_⊎_, inl, inr, ⊎-elim}
@@ -73,8 +73,8 @@ fitting s l (k ∷ j ∷ ks) (n ∷ ns) t =
     run l k n (j ∷ ks) (alternating (not l) ns) (lasts s k n (both-left (lasting s k n) (fits s (not l) (j ∷ ks) ns) t))
     (fitting s (not l) (j ∷ ks) ns (both-right (lasting s k n) (fits s (not l) (j ∷ ks) ns) t))
 
--- a capture renders a word, whatever its lead and whatever follows what is read, where it has 19 bits of samples from the start on and the 23 bits
--- of samples that are read may be the runs of the word
+-- A capture renders a word if two things hold. It has samples for 19 bits from the start on. What is read, at most 23 bits of samples, may be the
+-- runs of the word. The lead and what follows may be anything.
 pub runs-render : (s lead : ℕ) (after : List Bool) (ks ns : List ℕ) → 19 * s ≤ length after → take (23 * s) after ≡ alternating false ns
     → sum ks ≡ 21 → T (fits s false ks ns) → Renders s (replicate lead true ++ after) (runsWord 0 ks)
 runs-render s lead after ks ns room read bits t = record {

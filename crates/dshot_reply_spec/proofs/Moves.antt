@@ -1,4 +1,4 @@
--- A reply word in which one edge has moved by one bit decodes exactly where two neighbouring nibbles turn 1,9 to 8,0 or 1,D to 8,4, or back.
+-- One edge of a reply word has moved by one bit. The word decodes exactly if two neighbouring nibbles turn 1,9 to 8,0 or 1,D to 8,4, or back.
 -- Assumes nothing.
 use mathlib.Core.Path.{_≡_, sym, subst, refl, ap, _∙_}
 use mathlib.Core.Logic.{_⊎_, inl, inr, ⊎-elim}

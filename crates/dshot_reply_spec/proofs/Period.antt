@@ -1,4 +1,5 @@
--- The value of a period has document 01's smallest exponent and no other value has, and every period of 1 to 65535 has a value, of 12 bits.
+-- The value of a period has document 01's smallest exponent, and no other value has it. Every period of 1 to 65535 microseconds has a value of
+-- 12 bits.
 -- Assumes nothing.
 use mathlib.Core.Path.{_≡_, refl, sym, ap, subst, _∙_}
 use mathlib.Core.Bool.{Bool, true, false}

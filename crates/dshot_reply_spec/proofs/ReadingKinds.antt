@@ -1,4 +1,4 @@
--- Every reading of a value has one of the nine kinds, so no debug channel but 1 to 3, and a number of at most 600000.
+-- Every reading of a value has one of the nine kinds, and a number of at most 600000. So its debug channel is 1 to 3.
 -- Assumes nothing.
 use Prim.{Unit}
 use mathlib.Core.Path.{_≡_, refl, subst}

@@ -1,4 +1,4 @@
--- A capture that renders a word is read as that word, or, where its last run is too long, as no reply.
+-- A capture that renders a word is read as that word. If its last run is too long and stays open, it is read as no reply.
 -- Assumes nothing.
 use mathlib.Core.Path.{_≡_, sym, refl, ap, _∙_}
 use mathlib.Core.Logic.{_⊎_, inl, inr}
@@ -139,7 +139,7 @@ first-low : (n : ℕ) (t : List Bool) → firstLow (replicate n true ++ (false �
 first-low zero t = refl
 first-low (suc n) t = ap suc (first-low n t)
 
--- a capture that renders w is read as w, unless it ends in a run of more than three bits that does not close: then there is no reply
+-- A capture that renders w is read as w. If it ends in a run of more than three bits that does not close, it is read as no reply.
 pub rendered-exact : (s : ℕ) → 0 < s → (ls : List Bool) (w : ℕ) (r : Renders s ls w) → fromLevels s ls ≡ pick (ltb 3 (openBits (r .rendered))) (refused noReply) (given w)
 unfolding fromLevels
 rendered-exact s p ls w r =

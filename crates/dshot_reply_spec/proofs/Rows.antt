@@ -1,4 +1,4 @@
--- Rows of a table: a test finds just the rows that are there, and what every row passes in a test holds of each.
+-- Rows of a table. A test finds exactly the rows that are in the table. If every row passes a test, the test's claim holds of each row.
 -- Assumes nothing.
 use mathlib.Core.Path.{_≡_, sym, subst, refl}
 use mathlib.Core.Bool.{Bool, true, false}

@@ -1,5 +1,5 @@
--- A word in which two neighbouring bits change places: its symbols at and above place q are those of what stands above the bits below 5q, and
--- only the two symbols from there change.
+-- Two neighbouring bits of a word change places. The symbols from place q on are those of the word without its lowest 5q bits. Only the two symbols
+-- from there on change.
 -- Assumes nothing.
 use mathlib.Core.Path.{_≡_, sym, subst, ap, _∙_}
 use Prim.Native.Nat.{ℕ, _+_, _*_, _-_, _/_, _%_, _^_, _<_, _≤_}

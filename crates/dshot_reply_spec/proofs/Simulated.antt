@@ -1,4 +1,4 @@
--- What the simulated ESC writes: the samples of the reply word, which render it, are read as its value, and fill the buffer.
+-- What the simulated ESC writes: the samples of the reply word. They render the word, are read as its value, and fill the buffer.
 -- Assumes nothing.
 use mathlib.Core.Path.{_≡_, sym, refl, ap, _∙_}
 use mathlib.Core.Bool.{Bool, true, false}

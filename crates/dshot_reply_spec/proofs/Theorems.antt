@@ -1,5 +1,5 @@
--- What the reader answers for a capture that renders a reply word, a damaged one, and one with a moved edge: demand 3's claims of the reader,
--- at samples and mask, for every number of samples a bit.
+-- Demand 3's claims of the reader, at samples and mask, for every number of samples a bit. They say what the reader answers for three captures: one
+-- that renders a reply word, a damaged one, and one with a moved edge.
 -- Assumes nothing.
 use mathlib.Core.Path.{_≡_, subst, refl, ap, _∙_}
 use mathlib.Core.Logic.{_⊎_, inl, inr, ⊎-elim}

@@ -1,4 +1,4 @@
--- A word that the reader reads has its start edge at bit 20, and nothing above it.
+-- A word that the reader reads has its start edge at bit 20, and no bit above it.
 -- Assumes nothing.
 use Prim.{Unit}
 use mathlib.Core.Path.{_≡_, refl, sym, ap, _∙_}

@@ -1,4 +1,5 @@
--- The values that are refused with 11: with EDT off the multiples of 512 but for the acknowledgement 0xE00, with EDT on the value 0 alone.
+-- The values that are refused with 11 (zero period). With EDT off, they are the multiples of 512 except the acknowledgement 0xE00. With EDT on, only
+-- value 0 is refused.
 -- Assumes nothing.
 use mathlib.Core.Path.{_≡_, refl}
 use mathlib.Core.Bool.{true, false, _||_}
@@ -50,7 +51,7 @@ off-zero v h n = rw (ne-eqb (v % 4096) 0xe00 n) (zero-speed (v % 4096) (omega ar
 
 -- ---- with EDT on
 
--- with a type nibble that is odd, nine bits are at least 256: where they are 0, the nibble is 0, and so is the value
+-- If the type nibble is odd, the nine bits are at least 256. So if they are 0, the nibble is 0, and so is the value.
 typed-zero : (u : ℕ) → (eqb (u / 256 % 2) 1 || eqb (u / 256) 0) ≡ true → u % 512 ≡ 0 → u ≡ 0
 typed-zero u t h =
     let even = ne-eqb (u / 256 % 2) 1 (λ e. omega arith) in

@@ -9,17 +9,17 @@ pub data Answer (A : Type 0) : Type 0 where
   given : A → Answer A
   refused : ℕ → Answer A
 
--- what the next step makes of an answer: a refusal stays as it is, as with Rust's `?`
+-- the next step of an answer that was given; a refusal stays as it is, as with Rust's `?`
 abbrev pub andThen : {A B : Type 0} → Answer A → (A → Answer B) → Answer B
 andThen (given a) next = next a
 andThen (refused n) next = refused n
 
--- the first where a test holds, else the second
+-- a, if the test holds; else b
 abbrev pub pick : {A : Type 0} → Bool → A → A → A
 pick true a b = a
 pick false a b = b
 
--- the same, as Rust writes it
+-- the same in Rust's notation
 infix 1 if_then_else_
 abbrev pub if_then_else_ : {A : Type 0} → Bool → A → A → A
 if_then_else_ b x y = pick b x y
@@ -29,17 +29,17 @@ abbrev pub isGiven : {A : Type 0} → Answer A → Bool
 isGiven (given a) = true
 isGiven (refused n) = false
 
--- the number of a refusal, and 0 for what was given
+-- the number of a refusal; 0 if something was given
 abbrev pub refusalNumber : {A : Type 0} → Answer A → ℕ
 refusalNumber (given a) = 0
 refusalNumber (refused n) = n
 
--- what a lent buffer holds after a call that answers so: what is made of what was given, or what it held before
+-- what a lent buffer holds after a call: the slots of what was given; if the call is refused, what it held before
 abbrev pub filled : {A : Type 0} → (A → List ℕ) → List ℕ → Answer A → List ℕ
 filled slots out (given a) = slots a
 filled slots out (refused n) = out
 
--- refused, as a damaged capture is: with one of 7 to 10
+-- The answer is a refusal with one of 7 to 10 (no reply, overlong, invalid symbol, checksum), as of a damaged capture.
 pub record Rejected {A : Type 0} (a : Answer A) : Type 0 where
   pub number : ℕ
   pub refusal : a ≡ refused number

@@ -1,5 +1,5 @@
--- A bidirectional DShot reply as Betaflight's DShot documentation describes it, bit by bit as it goes over the wire. Written from what is known
--- of that documentation, whose text was not at hand (docs/DIFFERENCES.md), and not from the code.
+-- A bidirectional DShot reply as Betaflight's DShot documentation describes it, bit by bit as it goes over the wire. It is written from what is known
+-- of that documentation, not from the code. The documentation's text was not at hand (docs/DIFFERENCES.md).
 -- Assumes nothing.
 use Prim.Native.Nat.{ℕ, _+_, _-_, _*_, _/_, _%_, _^_}
 use mathlib.Core.Bool.{Bool, false, not}
@@ -26,38 +26,38 @@ table =
 unfoldable pub gcr : ℕ → List ℕ
 gcr n = getD table n []
 
--- the twenty bits of a 12-bit value: its nibbles, the highest first, and the checksum
+-- the twenty bits that are sent for a 12-bit value: its nibbles, the highest first, then the checksum, each as GCR
 unfoldable pub replyBits : ℕ → List ℕ
 replyBits v = gcr (v / 256) ++ (gcr (v / 16 % 16) ++ (gcr (v % 16) ++ gcr (crc v)))
 
--- bits as a number, the first the highest, after the bits of w
+-- bits as a number, the first bit the highest, after the bits of w
 abbrev pub numberFrom : ℕ → List ℕ → ℕ
 numberFrom w [] = w
 numberFrom w (b ∷ bs) = numberFrom (2 * w + b) bs
 
--- the level of the line in each bit: a 1 changes it, a 0 keeps it
+-- the level of the line in each bit, after the level l: a 1 changes it, a 0 keeps it
 abbrev pub lineFrom : Bool → List ℕ → List Bool
 lineFrom l [] = []
 lineFrom l (b ∷ bs) = (if eqb b 1 then not l else l) ∷ lineFrom (if eqb b 1 then not l else l) bs
 
--- the line idles high and goes low for the start bit; the twenty bits follow
+-- the line of a reply: it idles high, goes low for the start bit, and the twenty bits follow
 abbrev pub replyLine : ℕ → List Bool
 replyLine v = false ∷ lineFrom false (replyBits v)
 
--- a line as s samples of each bit
+-- the line with s samples for each bit
 abbrev pub sampled : ℕ → List Bool → List Bool
 sampled s [] = []
 sampled s (l ∷ ls) = replicate s l ++ sampled s ls
 
 -- ---- the speed of a 12-bit value eeemmmmmmmmm
 
--- the period in microseconds is m, shifted left by e
+-- the period in microseconds: m, shifted left by e
 abbrev pub period : ℕ → ℕ
 period v = v % 512 * 2 ^ (v / 512)
 
--- eRPM is 60 000 000 microseconds a minute over the period, and 0xFFF stands for a stopped rotor. The documentation says neither how a
--- quotient is rounded nor what a period of 0 means: that it is given in hundreds, to the nearest and halves up, and that 0 is refused, is
--- document 01's
+-- eRPM is 60 000 000 microseconds a minute divided by the period. 0xFFF stands for a stopped rotor. The documentation says neither how a quotient is
+-- rounded nor what a period of 0 means. Document 01 decides these: eRPM is given in hundreds, to the nearest, halves up, and a period of 0 is refused
+-- with 11 (zero period).
 abbrev pub nearest : ℕ → ℕ → ℕ
 nearest a b = (2 * a + b) / (2 * b)
 

@@ -1,7 +1,7 @@
--- The GCR code of a reply: sixteen symbols of five bits, one for
--- each nibble, the word of four symbols that a value is sent as, and what a word decodes to.
--- Stands for `decode_gcr` and `reply_transitions_for` of crates/ferrowasp-output/src/dshot_reply.rs (Eirik2020/ferro-wasp, commit
--- 9cb8aca1a6, Copyright (c) 2026 Kaldstrand, Apache-2.0), changed: rewritten as a definition.
+-- The GCR code of a reply: a symbol of five bits for each of the sixteen nibbles. A value is sent as a word of four symbols. The word decodes to the
+-- value again.
+-- Stands for `decode_gcr` and `reply_transitions_for` of crates/ferrowasp-output/src/dshot_reply.rs (Eirik2020/ferro-wasp, commit 9cb8aca1a6,
+-- Copyright (c) 2026 Kaldstrand, Apache-2.0), changed: rewritten as a definition.
 -- Assumes nothing.
 use Prim.Native.Nat.{ℕ, zero, suc, _+_, _*_, _/_, _%_, _^_}
 use mathlib.Core.List.{List, [], _∷_}
@@ -11,7 +11,7 @@ use lib.ListN.{getD}
 use Rattle.dshot_reply_spec.specs.Answer.{Answer, given, refused, if_then_else_}
 use Rattle.dshot_reply_spec.specs.Refusals.{invalidSymbol, wrongChecksum}
 
--- the symbol of each nibble
+-- the symbols of the nibbles 0 to F
 abbrev pub symbols : List ℕ
 symbols = 0x19 ∷ 0x1b ∷ 0x12 ∷ 0x13 ∷ 0x1d ∷ 0x15 ∷ 0x16 ∷ 0x17 ∷ 0x1a ∷ 0x09 ∷ 0x0a ∷ 0x0b ∷ 0x1e ∷ 0x0d ∷ 0x0e ∷ 0x0f ∷ []
 
@@ -19,33 +19,33 @@ symbols = 0x19 ∷ 0x1b ∷ 0x12 ∷ 0x13 ∷ 0x1d ∷ 0x15 ∷ 0x16 ∷ 0x17 �
 abbrev pub symbolOf : ℕ → ℕ
 symbolOf n = getD symbols n 0
 
--- the place of x in a list whose places are counted from i, or 255
+-- the place of x in a list, counted from i; 255 if x is not in it
 abbrev pub placeOf : ℕ → ℕ → List ℕ → ℕ
 placeOf x i [] = 255
 placeOf x i (y ∷ ys) = if eqb x y then i else placeOf x (suc i) ys
 
--- the nibble whose symbol s is, or 255 where s is no symbol
+-- the nibble of the symbol s; 255 if s is no symbol
 unfoldable pub nibbleOf : ℕ → ℕ
 nibbleOf s = placeOf s 0 symbols
 
 -- ---- the reply word of a value
 
--- the checksum of a value: the exclusive or of its three nibbles and the checksum is 0xF
+-- the checksum of a value: with it, the exclusive or of the four nibbles is 0xF
 abbrev pub checksum : ℕ → ℕ
 checksum v = bitXor (bitXor (bitXor (v / 256 % 16) (v / 16 % 16)) (v % 16)) 15
 
--- the nibbles of a reply: the value's at the places 3 to 1, the highest at 3, and the checksum at 0
+-- the nibble at a place of a reply: the value's nibbles are at places 3 to 1, the highest at 3, and the checksum at 0
 abbrev pub replyNibble : ℕ → ℕ → ℕ
 replyNibble v zero = checksum v
 replyNibble v (suc zero) = v % 16
 replyNibble v (suc (suc zero)) = v / 16 % 16
 replyNibble v (suc (suc (suc p))) = v / 256 % 16
 
--- a word of four symbols, the highest first, after the 1 of the start edge
+-- the word of four symbols, the highest first, after the 1 of the start edge
 unfoldable pub wordOf : ℕ → ℕ → ℕ → ℕ → ℕ
 wordOf a b c d = (((32 + a) * 32 + b) * 32 + c) * 32 + d
 
--- the word that a reply of a value is sent as; only the value's lowest twelve bits count
+-- the word that is sent for a value; only the value's lowest twelve bits count
 unfoldable pub replyWord : ℕ → ℕ
 replyWord v = wordOf (symbolOf (replyNibble v 3)) (symbolOf (replyNibble v 2)) (symbolOf (replyNibble v 1)) (symbolOf (replyNibble v 0))
 
@@ -55,11 +55,11 @@ replyWord v = wordOf (symbolOf (replyNibble v 3)) (symbolOf (replyNibble v 2)) (
 unfoldable pub symbolAt : ℕ → ℕ → ℕ
 symbolAt w p = w / 2 ^ (5 * p) % 32
 
--- the nibble at place p of a word, or 255: places 3 to 1 are the value's, place 0 the checksum's
+-- the nibble at place p of a word, or 255; places 3 to 1 hold the value, place 0 the checksum
 abbrev pub nibbleAt : ℕ → ℕ → ℕ
 nibbleAt w p = nibbleOf (symbolAt w p)
 
--- what four nibbles, the highest first, or 255 for a bad symbol, give: a bad symbol is found before a wrong checksum
+-- the value of four nibbles, the highest first. A nibble of 255 stands for a bad symbol. A bad symbol is refused before a wrong checksum.
 unfoldable pub fromNibbles : ℕ → ℕ → ℕ → ℕ → Answer ℕ
 fromNibbles a b c d =
     if eqb a 255 then refused invalidSymbol else
@@ -69,6 +69,6 @@ fromNibbles a b c d =
     if eqb (bitXor (bitXor (bitXor a b) c) d) 15 then given (a * 256 + b * 16 + c) else
     refused wrongChecksum
 
--- the value of a word; only its lowest twenty bits count
+-- the value of a word, or its refusal; only the word's lowest twenty bits count
 unfoldable pub decodeWord : ℕ → Answer ℕ
 decodeWord w = fromNibbles (nibbleAt w 3) (nibbleAt w 2) (nibbleAt w 1) (nibbleAt w 0)

@@ -1,11 +1,11 @@
--- The kind of a reading as a number, and the number that it carries: the last two fields of document 01's line of the bench.
+-- The kind of a reading as a number, and the number that the reading carries. They are the last two fields of the bench's line in document 01.
 -- Assumes nothing.
 use Prim.Native.Nat.{ℕ}
 use lib.Dec.{eqb}
 use Rattle.dshot_reply_spec.specs.Answer.{if_then_else_}
 use Rattle.dshot_reply_spec.specs.Value.{Reading, erpm, temp, volt, amp, debug, state, edt}
 
--- the kinds of the debug channels 1 to 3; another channel, which no reading of the library has, gets 9, which is no kind
+-- The kinds of the debug channels 1 to 3. Another channel gets 9, which is no kind. No reading of the library has such a channel.
 unfoldable pub debugKind : ℕ → ℕ
 debugKind channel =
     if eqb channel 1 then 4 else
@@ -13,7 +13,7 @@ debugKind channel =
     if eqb channel 3 then 6 else
     9
 
--- the kinds in the order of the line: erpm, temp, volt, amp, debug1 to debug3, state, edt
+-- the kinds in the order of document 01's line: erpm, temp, volt, amp, debug1 to debug3, state, edt
 abbrev pub kindNumber : Reading → ℕ
 kindNumber (erpm n) = 0
 kindNumber (temp n) = 1

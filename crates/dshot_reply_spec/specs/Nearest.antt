@@ -1,4 +1,4 @@
--- Document 01's rounding of a quotient: to the nearest, halves up. The Rust's `div_round`.
+-- A quotient rounded to the nearest, halves up, as document 01 asks. Stands for the Rust's `div_round`.
 -- Assumes nothing.
 use Prim.Native.Nat.{ℕ, _+_, _/_}
 

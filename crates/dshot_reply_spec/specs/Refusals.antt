@@ -1,4 +1,4 @@
--- Document 01's numbers of the refusals, all of them: 1 to 17 because of the input, 18 to 22 because of a bank's state.
+-- All numbers of refusals in document 01: 1 to 17 because of the input, 18 to 22 because of a bank's state.
 -- Assumes nothing.
 use Prim.Native.Nat.{ℕ}
 
@@ -35,11 +35,11 @@ wrongChecksum = 10
 abbrev pub zeroPeriod : ℕ
 zeroPeriod = 11
 
--- mask 0 where a capture is made
+-- a capture is to be made with mask 0
 abbrev pub noMask : ℕ
 noMask = 12
 
--- a lane that there is not
+-- the lane does not exist: its number is too large
 abbrev pub noSuchMotor : ℕ
 noSuchMotor = 12
 
