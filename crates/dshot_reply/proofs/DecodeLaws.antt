@@ -1,4 +1,4 @@
--- What the sum of three nibbles, or marks of bad symbols, and the fourth tell of a word.
+-- What the sum of three nibbles and the fourth nibble say of a word. A nibble may be the mark of a bad symbol.
 -- Assumes nothing.
 use mathlib.Core.Path.{_≡_, sym, subst, _∙_}
 use mathlib.Core.Logic.{_⊎_, inl, inr, ⊎-elim}

@@ -1,4 +1,4 @@
--- The answers of the source's enums, and of those added, in document 01's numbers and values.
+-- What each case of the code's enums means in document 01's numbers and values.
 -- Assumes nothing.
 use Prim.Native.Nat.{ℕ}
 use Rattle.dshot_reply_spec.specs.Answer.{Answer, given, refused}
@@ -57,7 +57,7 @@ abbrev pub periodAnswer : PeriodValue → Answer ℕ
 periodAnswer (Period.Value v) = given v
 periodAnswer Period.OutOfRange = refused periodOutOfRange
 
--- the number of a refused capture, and 0 for a written one
+-- the number of a refusal; 0 if the capture was written
 abbrev pub simulatedNumber : Simulated → ℕ
 simulatedNumber Written = 0
 simulatedNumber NoMask = noMask

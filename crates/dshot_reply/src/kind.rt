@@ -1,11 +1,11 @@
-// Added: a reply as two numbers, that of its kind and the one that it carries, for the bench's line and for the calls from C.
+// Added: a reply as two numbers, the number of its kind and the number that it carries. The bench's line and the calls from C need them.
 
 use crate::DshotReply;
 ghost use mathlib.Core.Path.{_≡_};
 ghost use Rattle.dshot_reply_spec.specs.Kind.{debugKind, kindNumber, readingNumber};
 ghost use Rattle.dshot_reply.specs.Answers.{reading};
 
-// The library reads the channels 1 to 3; any other gets a number that is no kind.
+// The library reads the channels 1 to 3. Any other channel gets a number that is no kind.
 fn debug_kind(channel: u8) -> u16
     ensures { λ r. ⌜ r ≡ debugKind channel ⌝ }
 {

@@ -145,7 +145,7 @@ fn is_high(sample: u16, pin_mask: u16) -> bool
     sample & pin_mask != 0
 }
 
-// Whether the eight samples from a place on are high; without a branch, so that they are tested together.
+// Whether the eight samples from a place on are high. It has no branch, so the eight are tested together.
 fn eight_high(samples: &[u16], at: usize, pin_mask: u16) -> bool
     requires { ⌜ at + 8 ≤ length (now samples) ⌝ }
     ensures { λ r. ⌜ (r ≡ true → firstLow (levels «pin_mask» (drop at (now (samples .entry)))) ≡ firstLow (levels «pin_mask» (drop (at + 8) (now (samples .entry)))) + 8) ⌝ }
@@ -159,7 +159,7 @@ fn eight_high(samples: &[u16], at: usize, pin_mask: u16) -> bool
     all_high
 }
 
-// Passes high samples by eights.
+// Passes over high samples, eight at a time.
 fn skip_high(samples: &[u16], pin_mask: u16) -> usize
     ensures { λ r. ⌜ (r ≤ length (now (samples .entry))) × (firstLow (levels «pin_mask» (now (samples .entry))) ≡ firstLow (levels «pin_mask» (drop r (now (samples .entry)))) + r) ⌝ }
 {
@@ -173,7 +173,7 @@ fn skip_high(samples: &[u16], pin_mask: u16) -> usize
     i
 }
 
-// The place of the first sample from `from` on that is not at `level`, or the length where there is none.
+// The place of the first sample from `from` on that is not at `level`. If there is none, the number of samples.
 fn run_end(samples: &[u16], pin_mask: u16, level: bool, from: usize) -> usize
     requires { ⌜ from ≤ length (now samples) ⌝ }
     ensures { λ r. ⌜ r ≡ from + sameFor level (levels «pin_mask» (drop from (now (samples .entry)))) ⌝ }
@@ -188,7 +188,7 @@ fn run_end(samples: &[u16], pin_mask: u16, level: bool, from: usize) -> usize
     i
 }
 
-// The same as `run_end`, with a loop of its own for each level, which is faster.
+// The same as `run_end`. Each level has a loop of its own, which is faster.
 fn next_edge(samples: &[u16], pin_mask: u16, level: bool, from: usize) -> usize
     requires { ⌜ from ≤ length (now samples) ⌝ }
     ensures { λ r. ⌜ r ≡ from + sameFor level (levels «pin_mask» (drop from (now (samples .entry)))) ⌝ }
@@ -199,7 +199,7 @@ fn next_edge(samples: &[u16], pin_mask: u16, level: bool, from: usize) -> usize
     run_end(samples, pin_mask, false, from)
 }
 
-// The place of the first low sample, or the length where there is none.
+// The place of the first low sample. If there is none, the number of samples.
 fn first_low(samples: &[u16], pin_mask: u16) -> usize
     ensures { λ r. ⌜ r ≡ firstLow (levels «pin_mask» (now (samples .entry))) ⌝ }
 {
@@ -216,7 +216,7 @@ fn run_bits(samples: usize) -> u32
     if run < 1 { 1 } else { run as u32 }
 }
 
-// The bits so far, a 1 and `run` - 1 zeros.
+// The bits so far, then a 1 and `run` - 1 zeros.
 fn push_run(transitions: u32, run: u32) -> u32
     requires { ⌜ (0 < run) × (run ≤ 21) × (transitions * 2 ^ run < 2 ^ 21) ⌝ }
     ensures { λ r. ⌜ r ≡ transitions * 2 ^ run + 2 ^ (run - 1) ⌝ }
@@ -224,7 +224,7 @@ fn push_run(transitions: u32, run: u32) -> u32
     (transitions << run) | (1 << (run - 1))
 }
 
-// The answer at the end of reading: no reply where too few bits were seen, else the missing bits as one last run.
+// The answer at the end of reading. If too few bits were seen, there is no reply. Otherwise the missing bits are one last run.
 fn close(bits: u32, transitions: u32) -> Transitions
     requires { ⌜ (bits ≤ 21) × (transitions < 2 ^ bits) ⌝ }
     ensures { λ r. ⌜ transitionsAnswer r ≡ closed bits transitions ⌝ }
@@ -268,7 +268,7 @@ fn at_most(n: usize, most: usize) -> usize
     if n < most { n } else { most }
 }
 
-// How many samples, from the first on, may be the start: those from which on there are `MIN_REPLY_SAMPLES`.
+// How many samples, from the first on, may be the start. At least `MIN_REPLY_SAMPLES` samples must follow from the start on.
 fn possible_starts(samples: usize) -> usize
     ensures { λ r. ⌜ r ≡ samples - 56 ⌝ }
 {
@@ -358,8 +358,8 @@ pub fn decode_gcr(transitions: u32) -> Decoded
     let b = symbol_nibble(&table, transitions / 1024 % 32);
     let c = symbol_nibble(&table, transitions / 32 % 32);
     let d = symbol_nibble(&table, transitions % 32);
-    // A nibble is at most 15 and `INVALID` is 255, so one test finds a bad symbol among three. With a test for each of the four a word took
-    // 2.4 ns for 2.1, and 50 instructions for 41.
+    // A nibble is at most 15 and `INVALID` is 255, so one test finds a bad symbol among three. With one test for each of the four symbols, a word
+    // took 2.4 ns and 50 instructions. Now it takes 2.1 ns and 41 instructions.
     if 45 < a + b + c {
         return Decoded::Refused(DshotReplyError::InvalidSymbol);
     }
@@ -470,7 +470,7 @@ impl DshotReply {
     }
 }
 
-// What transition bits read as.
+// The reading of transition bits.
 fn read_word(transitions: u32, extended_telemetry: bool) -> ReplyRead
     ensures { λ r. ⌜ replyAnswer r ≡ wordReply transitions «extended_telemetry» ⌝ }
 {

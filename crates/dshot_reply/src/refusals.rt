@@ -1,4 +1,4 @@
-// Added: document 01's numbers of the refusals, all of them: 1 to 17 because of the input, 18 to 22 because of a bank's state.
+// Added: all numbers of refusals in document 01: 1 to 17 because of the input, 18 to 22 because of a bank's state.
 
 pub const ZERO_TIMER_CLOCK: u32 = 1;
 
@@ -22,10 +22,10 @@ pub const WRONG_CHECKSUM: u32 = 10;
 
 pub const ZERO_PERIOD: u32 = 11;
 
-// Mask 0 where a capture is made.
+// A capture is to be made with mask 0.
 pub const NO_MASK: u32 = 12;
 
-// A lane that there is not.
+// The lane does not exist: its number is too large.
 pub const NO_SUCH_MOTOR: u32 = 12;
 
 pub const WRONG_LENGTH: u32 = 13;

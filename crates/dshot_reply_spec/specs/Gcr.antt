@@ -34,7 +34,7 @@ nibbleOf s = placeOf s 0 symbols
 abbrev pub checksum : ℕ → ℕ
 checksum v = bitXor (bitXor (bitXor (v / 256 % 16) (v / 16 % 16)) (v % 16)) 15
 
--- the nibble at a place of a reply: the value's nibbles are at places 3 to 1, the highest at 3, and the checksum at 0
+-- the nibble at a place of a reply: the value's nibbles at places 3 to 1, the highest at 3, and the checksum at 0
 abbrev pub replyNibble : ℕ → ℕ → ℕ
 replyNibble v zero = checksum v
 replyNibble v (suc zero) = v % 16
