@@ -1,4 +1,4 @@
--- A run of commands sends each command its number of times, in order, and then none for ever.
+-- A run of commands sends each command its number of times, in order. After that it sends none for ever.
 -- Assumes nothing.
 use mathlib.Core.Path.{_≡_, refl, sym, ap, _∙_}
 use mathlib.Core.Bool.{Bool}

@@ -1,4 +1,4 @@
--- Document 01's fixed points hold, as one table.
+-- All of document 01's fixed points hold.
 -- Assumes nothing.
 use mathlib.Core.Path.{refl}
 use mathlib.Core.Logic.{inr}

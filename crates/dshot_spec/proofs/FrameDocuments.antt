@@ -1,4 +1,4 @@
--- The packet word and the duties of a sequence are the bits that the document describes (specs/Betaflight), in their order.
+-- The packet word and the duties of a sequence are the bits of the document (specs/Betaflight), in their order.
 -- Assumes nothing.
 use mathlib.Core.Path.{_≡_, refl, sym, ap, _∙_}
 use mathlib.Core.Bool.{Bool, true, false}

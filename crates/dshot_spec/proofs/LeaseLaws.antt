@@ -1,4 +1,4 @@
--- When a lease has expired: exactly where more than the lease has passed; by a later clock, by an earlier one, and by a clock that wrapped.
+-- A lease has expired exactly if more time has passed than its duration. The laws are for a later clock, an earlier clock, and a clock that wrapped.
 -- Assumes nothing.
 use mathlib.Core.Path.{_≡_, ap}
 use mathlib.Core.Bool.{true, false}

@@ -1,4 +1,4 @@
--- A packet word reads back as what it was made of, and a word that reads is the packet of what it says.
+-- A packet word reads back as what it was made of. If a word reads, it is the packet of what it says.
 -- Assumes nothing.
 use mathlib.Core.Path.{_≡_, refl, subst, ap, _∙_}
 use mathlib.Core.Logic.{⊎-elim}

@@ -1,4 +1,4 @@
--- The sequence of a packet reads back as what the packet says, and a sequence that reads is the one that its packet is sent as.
+-- The sequence of a packet reads back as what the packet says. If a sequence reads, it is the one that its packet is sent as.
 -- Assumes nothing.
 use mathlib.Core.Path.{_≡_, refl, sym, ap, _∙_}
 use mathlib.Core.Logic.{⊎-elim}

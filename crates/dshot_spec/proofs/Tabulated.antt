@@ -1,4 +1,4 @@
--- The laws of a list by the entry at each place, for every count: its length, its entries, and what a loop that fills it keeps.
+-- The laws of a list by the entry at each place, for every count. They give its length, its entries, and what a loop that fills it keeps.
 -- Assumes nothing.
 use mathlib.Core.Path.{_≡_, _∙_, refl, sym, ap}
 use Prim.Native.Nat.{ℕ, zero, suc, _+_, _<_, _≤_}

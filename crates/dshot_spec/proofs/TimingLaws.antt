@@ -1,4 +1,4 @@
--- Quotients to the nearest, and the laws of a timing that is given: its clocks, its counts, its high times and its shortest period.
+-- Quotients to the nearest. The laws of a timing that is given: its clocks, its counts, its high times and its shortest period.
 -- Assumes nothing.
 use mathlib.Core.Path.{_≡_}
 use Prim.Native.Nat.{ℕ, _+_, _*_, _/_, _^_, _<_, _≤_}

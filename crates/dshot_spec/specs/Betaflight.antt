@@ -1,5 +1,5 @@
--- A DShot frame as Betaflight's DShot documentation describes it, bit by bit as it goes over the wire. Written from what is known of that
--- documentation, whose text was not at hand (docs/DIFFERENCES.md), and not from the code.
+-- A DShot frame as Betaflight's DShot documentation describes it, bit by bit as it goes over the wire. It is written from what is known of that
+-- documentation, not from the code. The documentation's text was not at hand (docs/DIFFERENCES.md).
 -- Assumes nothing.
 use Prim.Native.Nat.{ℕ, zero, suc, _+_, _-_, _*_, _/_, _%_, _^_, _≤_}
 use mathlib.Core.Bool.{Bool, true, false}
@@ -11,17 +11,17 @@ abbrev pub bits : ℕ → ℕ → List ℕ
 bits zero x = []
 bits (suc n) x = x / 2 ^ n % 2 ∷ bits n x
 
--- the telemetry request
+-- the bit of the telemetry request
 abbrev pub request : Bool → ℕ
 request true = 1
 request false = 0
 
--- the checksum of the twelve bits x before it, (x ^ (x >> 4) ^ (x >> 8)) & 0x0F; bidirectional DShot inverts it, ~(..) & 0x0F
+-- The checksum of the twelve bits x before it: (x ^ (x >> 4) ^ (x >> 8)) & 0x0F. Bidirectional DShot inverts it: ~(..) & 0x0F.
 unfoldable pub crc : Bool → ℕ → ℕ
 crc false x = bitXor (bitXor x (x / 16)) (x / 256) % 16
 crc true x = 15 - bitXor (bitXor x (x / 16)) (x / 256) % 16
 
--- eleven bits of value, the telemetry request and four bits of checksum
+-- a frame: eleven bits of value, the telemetry request and four bits of checksum
 unfoldable pub frameBits : Bool → ℕ → Bool → List ℕ
 frameBits bidirectional value telemetry = bits 11 value ++ (request telemetry ∷ bits 4 (crc bidirectional (value * 2 + request telemetry)))
 
@@ -30,7 +30,7 @@ abbrev pub highEighths : Bool → ℕ
 highEighths false = 3
 highEighths true = 6
 
--- a count is the nearest to so many eighths of a period: no more than half a tick off, on either side
+-- The count is the number of ticks nearest to so many eighths of a period: at most half a tick too small or too large.
 pub record NearestTick (count eighths period : ℕ) : Type 0 where
   pub most : 8 * count ≤ eighths * period + 4
   pub least : eighths * period ≤ 8 * count + 4

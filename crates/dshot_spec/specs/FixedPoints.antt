@@ -1,4 +1,4 @@
--- Document 01's fixed points, as one table, and what each row claims.
+-- Document 01's fixed points in one table, and what each row claims.
 -- Assumes nothing.
 use Prim.Native.Nat.{ℕ}
 use mathlib.Core.Path.{_≡_}
@@ -12,7 +12,7 @@ use Rattle.dshot_spec.specs.Packet.{Kind, plain, inverted, packetWord}
 use Rattle.dshot_spec.specs.Throttle.{throttleValue}
 use Rattle.dshot_spec.specs.Timing.{Timing, fromClocks}
 
--- the kinds of points
+-- the kinds of fixed points
 pub data Point : Type 0 where
   -- the packet of a value and a telemetry bit
   packet : Kind → ℕ → Bool → ℕ → Point
@@ -24,7 +24,7 @@ pub data Point : Type 0 where
   word : ℕ → ℕ → Point
   -- the reading of a value, with EDT off or on
   reading : ℕ → Bool → Answer Reading → Point
-  -- the words of two values, which differ by an edge that moves from one bit to another
+  -- the words of two values; one edge moves from one bit to another between them
   moved : ℕ → ℕ → ℕ → ℕ → Point
 
 -- what a point claims
@@ -41,7 +41,7 @@ abbrev pub Hold : List Point → Type 0
 Hold [] = Unit {0}
 Hold (p ∷ ps) = Holds p × Hold ps
 
--- a timing that is given, by its counts
+-- the answer of a timing that is given, by its counts
 abbrev counts : ℕ → ℕ → ℕ → ℕ → Answer Timing
 counts a z o r = given (record { arr = a; zeroHigh = z; oneHigh = o; replySampleArr = r })
 

@@ -1,6 +1,6 @@
 -- The packet word of a value and a telemetry bit, and what a packet word says.
 -- Stands for `DshotPacket` and `four_motor_packets` with its bidirectional form, of crates/ferrowasp-output/src/dshot.rs (Eirik2020/ferro-wasp,
--- commit 9cb8aca1a6, Copyright (c) 2026 Kaldstrand, Apache-2.0), changed: rewritten as definitions. The reader is added by document 01.
+-- commit 9cb8aca1a6, Copyright (c) 2026 Kaldstrand, Apache-2.0), changed: rewritten as definitions. Document 01 adds the reader.
 -- Assumes nothing.
 use Prim.Native.Nat.{ℕ, _+_, _*_, _/_, _%_}
 use mathlib.Core.Bool.{Bool, true, false}
@@ -12,12 +12,12 @@ use Rattle.dshot_reply_spec.specs.Answer.{Answer, given, refused, if_then_else_
 use Rattle.dshot_reply_spec.specs.Refusals.{valueOutOfRange, wrongPacketChecksum}
 use Rattle.dshot_spec.specs.Tabulate.{tabulate}
 
--- how the checksum is sent: as it is, or inverted, which asks a bidirectional ESC to answer
+-- how the checksum is sent: as it is, or inverted; the inverted one asks a bidirectional ESC to answer
 pub data Kind : Type 0 where
   plain : Kind
   inverted : Kind
 
--- whether it is inverted
+-- whether the checksum is inverted
 abbrev pub isInverted : Kind → Bool
 isInverted plain = false
 isInverted inverted = true
@@ -33,7 +33,7 @@ abbrev pub flag : Bool → ℕ
 flag true = 1
 flag false = 0
 
--- the lowest eleven bits of the value, and the telemetry bit below them
+-- the lowest eleven bits of the value, with the telemetry bit below them
 abbrev pub payload : ℕ → Bool → ℕ
 payload value telemetry = 2 * (value % 2048) + flag telemetry
 
@@ -41,16 +41,16 @@ payload value telemetry = 2 * (value % 2048) + flag telemetry
 abbrev pub checksum : ℕ → ℕ
 checksum p = bitXor (bitXor (p % 16) (p / 16 % 16)) (p / 256 % 16)
 
--- what is sent for a checksum
+-- the checksum as it is sent
 abbrev pub sent : Kind → ℕ → ℕ
 sent plain c = c
 sent inverted c = bitXor c 15
 
--- the payload, and the checksum as it is sent in the lowest four bits
+-- the packet word: the payload, and below it four bits of checksum as it is sent
 unfoldable pub packetWord : Kind → ℕ → Bool → ℕ
 packetWord kind value telemetry = 16 * payload value telemetry + sent kind (checksum (payload value telemetry))
 
--- the plain packet of a value that fits in eleven bits
+-- the plain packet of a value that fits in eleven bits; a larger value is refused with 5 (value out of range)
 unfoldable pub tryPacket : ℕ → Bool → Answer ℕ
 tryPacket value telemetry = if ltb 2047 value then refused valueOutOfRange else given (packetWord plain value telemetry)
 
@@ -66,7 +66,7 @@ abbrev pub asks : TelemetryLane → ℕ → Bool
 asks none i = false
 asks (lane l) i = eqb l i
 
--- a packet for each lane; a telemetry lane that is none of them marks no packet
+-- the packet of each of n lanes; if the telemetry lane is none of them, no packet has the telemetry bit
 unfoldable pub motorPackets : ℕ → Kind → List ℕ → TelemetryLane → List ℕ
 motorPackets n kind values telemetryLane = tabulate n (λ i. packetWord kind (getD values i 0) (asks telemetryLane i))
 
@@ -76,7 +76,7 @@ motorPackets n kind values telemetryLane = tabulate n (λ i. packetWord kind (ge
 abbrev pub frameOf : Kind → ℕ → Frame
 frameOf kind p = record { value = p / 2; telemetry = eqb (p % 2) 1; kind = kind }
 
--- the value, the telemetry bit and the kind of checksum of a packet word
+-- The value, the telemetry bit and the kind of checksum of a packet word. If neither checksum fits, the refusal is 15 (packet checksum).
 unfoldable pub readPacket : ℕ → Answer Frame
 readPacket w =
     if eqb (w % 16) (checksum (w / 16)) then given (frameOf plain (w / 16)) else

@@ -10,14 +10,14 @@ use Rattle.dshot_reply_spec.specs.Answer.{Answer, given, refused, if_then_else_
 use Rattle.dshot_reply_spec.specs.Refusals.{zeroTimerClock, zeroBitrate, periodTooShort, periodTooLong}
 use Rattle.dshot_reply_spec.specs.Nearest.{nearest}
 
--- the counts of `DshotTiming`: the period less one, the high times of a 0 and of a 1, and the period of reply samples less one
+-- the counts of `DshotTiming`: a bit's period - 1, the high times of a 0 and of a 1, and the reply samples' period - 1
 pub record Timing : Type 0 where
   pub arr : ℕ
   pub zeroHigh : ℕ
   pub oneHigh : ℕ
   pub replySampleArr : ℕ
 
--- how often replies are sampled, s times a bit: they come at 5/4 of the bit rate
+-- the rate of reply samples at s samples a bit; replies come at 5/4 of the bit rate
 abbrev pub replySampleHz : ℕ → ℕ → ℕ
 replySampleHz s bitrate = bitrate * (5 * s) / 4
 
@@ -25,7 +25,7 @@ replySampleHz s bitrate = bitrate * (5 * s) / 4
 abbrev pub countsOf : ℕ → ℕ → Timing
 countsOf p q = record { arr = p - 1; zeroHigh = nearest (3 * p) 8; oneHigh = nearest (3 * p) 4; replySampleArr = q - 1 }
 
--- the counts of periods p and q, or why they cannot be timed
+-- the counts of a period p and a reply sample period q, or the refusal if they cannot be timed
 abbrev pub timed : ℕ → ℕ → Answer Timing
 timed p q =
     if ltb p 4 then refused periodTooShort else
@@ -33,14 +33,14 @@ timed p q =
     if ltb q 2 then refused periodTooShort else
     given (countsOf p q)
 
--- s samples a bit, a timer clock and a bit rate
+-- the timing of a timer clock and a bit rate, at s samples a bit
 unfoldable pub fromClocks : ℕ → ℕ → ℕ → Answer Timing
 fromClocks s clock bitrate =
     if eqb clock 0 then refused zeroTimerClock else
     if eqb bitrate 0 then refused zeroBitrate else
     timed (nearest clock bitrate) (nearest clock (replySampleHz s bitrate))
 
--- what a timing t that is given says of its clocks
+-- what holds of the clocks if a timing t is given
 pub record ClocksGiven (s clock bitrate : ℕ) (t : Timing) : Type 0 where
   pub clocked : 0 < clock
   pub rated : 0 < bitrate

@@ -1,2 +1,2 @@
-// What a DShot frame is: definitions in specs/, and theorems about them in proofs/. There is no code here, so that no definition can rest on
-// the code that it judges; the crate `dshot` is proved equal to these definitions.
+// What a DShot frame is: definitions in specs/, and theorems about them in proofs/. There is no code here, so no definition can rest on the code that
+// it judges. The crate `dshot` is proved equal to these definitions.
