@@ -1,4 +1,4 @@
--- What is left to be tested of a clock and a bit rate that are not 0.
+-- If a clock and a bit rate are not 0: what is left to be tested.
 -- Assumes nothing.
 use mathlib.Core.Path.{_≡_}
 use Prim.Native.Nat.{ℕ, _<_}

@@ -1,4 +1,4 @@
--- What the loop over the duties of a sequence keeps: the word so far, and that the rest gives the whole.
+-- What the loop over the duties of a sequence keeps: the word so far, and that the rest of the duties gives the whole word.
 -- Assumes nothing.
 use mathlib.Core.Path.{_≡_, refl, ap, _∙_}
 use mathlib.Core.List.{List, _∷_}

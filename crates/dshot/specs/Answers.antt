@@ -1,5 +1,5 @@
--- The answers of the code in the terms of the definitions: for each case of an enum document 01's number and values, and the fields of a
--- struct.
+-- What the code's answers mean in the terms of the definitions. Each case of an enum gets document 01's number and values, and each struct its
+-- fields.
 -- Assumes nothing.
 use Prim.Native.Nat.{ℕ}
 use mathlib.Core.List.{List, map}
@@ -82,7 +82,7 @@ timingAnswer (TimingMade·.Refused e) = refused (timingErrorNumber e)
 
 -- ---- duties
 
--- the number of a refused buffer, and 0 for one that was filled
+-- the number of a refusal; 0 if the buffer was filled
 abbrev pub encodedNumber : Encoded → ℕ
 encodedNumber Encoded·.Written = 0
 encodedNumber Encoded·.WrongLength = wrongLength
@@ -109,7 +109,7 @@ nextOf n = record { command = commandOf (n .value); run = runOf (n .sequence) }
 
 -- ---- the readers
 
--- the number of a refusal of a reader
+-- the number of a reader's refusal
 abbrev pub readErrorNumber : FrameReadError → ℕ
 readErrorNumber FrameReadError·.WrongLength = wrongLength
 readErrorNumber FrameReadError·.WrongDuty = wrongDuty

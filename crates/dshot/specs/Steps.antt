@@ -1,4 +1,4 @@
--- The answers of private functions, in the terms of the definitions. No promise of a public call cites these.
+-- What the answers of private functions mean in the terms of the definitions. No promise of a public call cites these.
 -- Assumes nothing.
 use Prim.Native.Nat.{ℕ}
 use Rattle.dshot_reply_spec.specs.Answer.{Answer, given, refused}

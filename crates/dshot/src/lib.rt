@@ -1,8 +1,8 @@
-// Ported from crates/ferrowasp-output/src/dshot.rs of Eirik2020/ferro-wasp at commit 9cb8aca1a6, Copyright (c) 2026 Kaldstrand, under the
-// Apache License, Version 2.0 (see NOTICE). Changed: ported to Rattle, with a promise for each call, and a refusal where a lent buffer has
-// the wrong length; the readers are added.
+// Ported from crates/ferrowasp-output/src/dshot.rs of Eirik2020/ferro-wasp at commit 9cb8aca1a6, Copyright (c) 2026 Kaldstrand, under the Apache
+// License, Version 2.0 (see NOTICE). Changed: ported to Rattle, with a promise for each call. If a lent buffer has the wrong length, a call refuses.
+// The readers are added.
 //
-// DShot frames: the packet word of a value, the timer counts and the duties that it is sent as, and runs of special commands.
+// DShot frames: the packet word of a value, its timer counts and duties, and runs of special commands.
 //
 // The source's requirements: OUTPUT-001, OUTPUT-002, OUTPUT-004, OUTPUT-005, OUTPUT-006, OUTPUT-007, OUTPUT-008, OUTPUT-009. Safety-critical.
 
@@ -45,7 +45,7 @@ pub const DSHOT_MAX_THROTTLE: u16 = 2047;
 
 pub const DSHOT600_BITRATE_HZ: u32 = 600_000;
 
-// Why a packet is not made. `specs/Answers.antt` gives each error of this crate its number in document 01.
+// Why no packet is made. `specs/Answers.antt` gives each error of this crate its number in document 01.
 pub enum DshotFrameError {
     ValueOutOfRange,
 }
@@ -61,7 +61,7 @@ impl DshotFrameError {
     }
 }
 
-// The word of a frame: a type of its own, so that it is never taken for a value.
+// The word of a frame. It has a type of its own, so that it is never taken for a value.
 pub struct DshotPacket(pub u16);
 
 // A packet, or why there is none.
@@ -157,7 +157,7 @@ pub fn packets_of_kind(
     packets
 }
 
-// Packs one synchronized four-lane frame set and sets the telemetry bit on at most one lane: a telemetry lane above 3 marks none.
+// Packs one synchronized four-lane frame set and sets the telemetry bit on at most one lane. If the telemetry lane is above 3, no lane has it.
 pub fn four_motor_packets(values: MotorValues, telemetry_lane: TelemetryLane) -> MotorPackets
     ensures { λ r. ⌜ words r ≡ motorPackets 4 plain values (laneOf «telemetry_lane») ⌝ }
 {
@@ -219,7 +219,7 @@ impl DshotTiming {
     // The lower limit of the period of reply samples, in ticks of the timer.
     pub const MIN_REPLY_SAMPLE_PERIOD: u64 = 2;
 
-    // The source also refuses a high time of zero, or one as long as the period. None is, from the shortest period on (`high-times` in
+    // The source also refuses a high time of zero, or one as long as the period. From the shortest period on, no high time is such (`high-times` in
     // dshot_spec/proofs/TimingLaws.antt).
     pub fn from_clocks(timer_hz: u32, bitrate_hz: u32) -> TimingMade
         ensures { λ r. ⌜ timingAnswer r ≡ fromClocks 3 «timer_hz» «bitrate_hz» ⌝ }
@@ -271,7 +271,7 @@ pub enum Encoded {
 }
 
 impl Encoded {
-    // The number of a refusal in document 01, and 0 where the buffer was filled.
+    // The number of a refusal in document 01; 0 if the buffer was filled.
     pub fn number(self) -> u32
         ensures { λ r. ⌜ r ≡ encodedNumber self ⌝ }
     {
@@ -295,7 +295,7 @@ fn chosen(set: bool, one: u16, zero: u16) -> u16
     if set { one } else { zero }
 }
 
-// Slot `index` of the lowest `bits` bits of a packet: the duty of a bit, the highest first, and zero after the last.
+// Slot `index` of the lowest `bits` bits of a packet: the duty of a bit, the highest first. After the last bit it is 0.
 fn duty_slot(packet: DshotPacket, bits: usize, zero: u16, one: u16, index: usize) -> u16
     requires { ⌜ bits ≤ 16 ⌝ }
     ensures { λ r. ⌜ r ≡ (if ltb index bits then (if isSet (packet .0) (bits - 1 - index) then one else zero) else 0) ⌝ }
@@ -324,7 +324,7 @@ pub fn encode_packet(packet: DshotPacket, max_duty: u16, output: &mut [u16]) -> 
     Encoded::Written
 }
 
-// The first duty of a sequence whose others were written.
+// The first duty of a sequence. The others are written to the buffer.
 pub enum Sequenced {
     First(u16),
     WrongLength,
@@ -345,7 +345,7 @@ pub fn encode_compare_sequence(
     if dma_output.len() != COMPARE_DMA_SLOTS {
         return Sequenced::WrongLength;
     }
-    // Read before the loop: picked in it, each would be shifted out of the struct again, which the compiler passes as one number.
+    // Both duties are read before the loop. The compiler passes the struct as one number, and in the loop it would shift each duty out of it again.
     let zero = timing.duty_for_bit(false);
     let one = timing.duty_for_bit(true);
     let mut index = 0;
@@ -385,8 +385,8 @@ pub fn throttles_to_dshot(values: MotorValues) -> MotorValues
     out
 }
 
-// DShot special commands that a run sends. Values 1-47 are commands, not throttle; ESCs act on them only with the telemetry bit set, while
-// the motor is stopped, and after several identical frames.
+// DShot special commands that a run sends. Values 1-47 are commands, not throttle. ESCs act on them only with the telemetry bit set, while the motor
+// is stopped, and after several identical frames.
 pub const DSHOT_CMD_SAVE_SETTINGS: u16 = 12;
 
 pub const DSHOT_CMD_SPIN_DIRECTION_NORMAL: u16 = 20;
@@ -396,8 +396,8 @@ pub const DSHOT_CMD_SPIN_DIRECTION_REVERSED: u16 = 21;
 // Frames per command. The protocol asks for at least six; Betaflight sends ten, and so does this.
 pub const DSHOT_COMMAND_REPEATS: u8 = 10;
 
-// A short run of special-command frames for one motor, e.g. "set direction, then save". Each call to `next_value` yields the value for the next
-// frame until the run is spent. Any fields make a run: a count of 0, which no run of `spin_direction` reaches, is taken for 256.
+// A short run of special-command frames for one motor, e.g. "set direction, then save". Each call to `next_value` yields the value for the next frame
+// until the run is spent. Any fields make a run. A count of 0 means 256; no run of `spin_direction` reaches 0.
 pub struct DshotCommandSequence {
     pub commands: [u16; 2],
     pub index: u8,
@@ -468,8 +468,8 @@ impl DshotCommandSequence {
 
 // Returns true once a bounded command lease is older than its duration.
 //
-// Timestamps are a `u64` millisecond count, which does not wrap in use. The subtraction still wraps, so a `now_ms` read before `started_ms` - out
-// of order - counts as expired, the conservative answer, but where the subtraction wraps into the lease.
+// Timestamps are a `u64` millisecond count, which does not wrap in use. The subtraction still wraps. So a `now_ms` read before `started_ms` - out of
+// order - counts as expired, the conservative answer. If the subtraction wraps into the lease, it does not.
 pub fn command_lease_expired(started_ms: u64, duration_ms: u32, now_ms: u64) -> bool
     ensures { λ r. ⌜ r ≡ leaseExpired «started_ms» «duration_ms» «now_ms» ⌝ }
 {

@@ -1,4 +1,4 @@
-// Added: the readers of packets and of sequences, which are not in the source.
+// Added: the readers of packets and of sequences. They are not in the source.
 
 use crate::COMPARE_DMA_SLOTS;
 use crate::ChecksumKind;
@@ -20,11 +20,11 @@ ghost use Rattle.dshot.specs.Steps.{dutyAnswer, wordAnswer};
 
 // Why a packet or a sequence cannot be read.
 pub enum FrameReadError {
-    // The slots of a sequence are not sixteen.
+    // The sequence does not have sixteen slots.
     WrongLength,
-    // A duty of neither bit, no zero at the end, or a timing in which both bits have one high time.
+    // A duty is neither high time, the last slot is not zero, or both bits have the same high time.
     WrongDuty,
-    // The checksum is neither the plain nor the inverted one.
+    // The checksum is neither plain nor inverted.
     Checksum,
 }
 
@@ -95,7 +95,7 @@ impl DshotTiming {
     }
 }
 
-// The duty of bit 15 - `index`: the first stands alone.
+// The duty of bit 15 - `index`. The first duty is not in the slots.
 fn duty_at(first: u16, slots: &[u16], index: usize) -> u16
     requires { ⌜ index ≤ length (now slots) ⌝ }
     ensures { λ r. ⌜ r ≡ getD (first ∷ now (slots .entry)) index 0 ⌝ }
@@ -106,7 +106,7 @@ fn duty_at(first: u16, slots: &[u16], index: usize) -> u16
     slots[index - 1]
 }
 
-// The word of sixteen duties.
+// The word of sixteen duties, or that a duty is wrong.
 enum WordRead {
     Word(u16),
     WrongDuty,
@@ -132,8 +132,7 @@ fn read_word(first: u16, slots: &[u16], timing: DshotTiming) -> WordRead
     WordRead::Word(word)
 }
 
-// What `encode_compare_sequence` wrote: the value, the telemetry bit and the kind of checksum of a sequence, of which the first duty stands
-// alone.
+// The value, the telemetry bit and the kind of checksum of a sequence that `encode_compare_sequence` wrote. The first duty is not in the slots.
 pub fn read_compare_sequence(first: u16, dma_output: &[u16], timing: DshotTiming) -> FrameRead
     ensures { λ r. ⌜ frameAnswer r ≡ readSequence (timingOf timing) (record { first = first; slots = now («dma_output» .entry) }) ⌝ }
 {
