@@ -1,6 +1,6 @@
--- One call of a bank, whichever it is, where nothing is refused by the port: what the source does, the view, and the caller's own lending.
+-- One call of a bank, of any kind, if the port does not refuse it. It is a call of the source, the view, or the caller lending other buffers.
 -- Stands for the calls of `DshotBank` of crates/ferrowasp-stm32-critical/src/dshot_bank.rs (Eirik2020/ferro-wasp, commit 9cb8aca1a6, Copyright (c)
--- 2026 Kaldstrand, Apache-2.0), changed: rewritten as definitions; the looks and `take_replies` are transcribed here, the others in their own files.
+-- 2026 Kaldstrand, Apache-2.0), changed: rewritten as definitions. The looks and `take_replies` are transcribed here, the others in their own files.
 -- Assumes nothing.
 use Prim.Native.Nat.{ℕ}
 use mathlib.Core.Bool.{Bool, false}
@@ -20,8 +20,8 @@ use Rattle.dshot_bank_spec.specs.Commands.{enableBidirectional, commandS
 use Rattle.dshot_bank_spec.specs.Service.{ServiceEvent, Served, service}
 use Rattle.dshot_bank_spec.specs.Interrupt.{InterruptEvent, Interrupted, onDmaInterrupt}
 
--- a call with its arguments, its clock, the hardware's answers and the captures. The calls from is-bidirectional to sending only look; lend is no
--- call of the bank: between two calls the caller may write the lent buffers, or lend others
+-- A call with its arguments, its clock, the hardware's answers and the captures. The calls from `is-bidirectional` to `sending` only look. `lend` is
+-- no call of the bank: between two calls the caller may write the lent buffers, or lend others.
 pub data Call : Type 0 where
   enable-bidirectional : (receives : Bool) → Call
   command-stop : Call
@@ -42,12 +42,13 @@ pub data Call : Type 0 where
   sending : (motor : ℕ) → Call
   lend : (buffers : Buffers) → Call
 
--- DshotReplyStats: each count by lane
+-- the Rust's `DshotReplyStats`: each count by lane
 pub record ReplyStats : Type 0 where
   pub valid : List ℕ
   pub invalid : List ℕ
   pub consecutiveInvalid : List ℕ
 
+-- what a call answers
 pub data Answer : Type 0 where
   done : Answer
   refused : (number : ℕ) → Answer
@@ -71,11 +72,13 @@ pub record Stepped : Type 0 where
   pub answer : Answer
   pub state : State
 
--- ---- what is done where nothing is refused by the port: what the source does, the view, and the caller's own lending
+-- ---- what a call does if the port does not refuse it
 
+-- each lane's reply
 abbrev pub repliesOf : List LaneReply → List (Reply.Answer Reading)
 repliesOf lanes = map (λ (l : LaneReply). l .reply) lanes
 
+-- each lane's reply counts
 abbrev pub replyStatsOf : List LaneReply → ReplyStats
 replyStatsOf lanes = record {
   valid = map (λ (l : LaneReply). l .valid) lanes;
@@ -83,35 +86,36 @@ replyStatsOf lanes = record {
   consecutiveInvalid = map (λ (l : LaneReply). l .consecutiveInvalid) lanes;
 }
 
--- self.replies.take()
+-- the core after the Rust's `self.replies.take()`
 abbrev pub repliesTaken : Core → Core
 repliesTaken c = withFrame (withRepliesHeld false (c .frame)) c
 
--- the sequence that a lane is sending
+-- the sequence that a lane is sending, out of the buffer that its mark names
 abbrev pub sequenceSent : Core → Buffers → ℕ → List ℕ
 sequenceSent c b motor = part 16 motor (if getD (c .frame .inSecond) motor false then b .second else b .first)
 
--- an answer, and all as it was
+-- an answer, with the state as it was
 abbrev pub told : State → Answer → Stepped
 told s a = record { answer = a; state = s }
 
--- an answer, and another core
+-- an answer, with another core
 abbrev pub changed : State → Answer → Core → Stepped
 changed s a c = record { answer = a; state = record { bank = withCore c (s .bank); buffers = s .buffers } }
 
--- a core, or an error
+-- done with a core, or refused
 abbrev pub commanded : State → Reply.Answer Core → Stepped
 commanded s (given c) = changed s done c
 commanded s (Reply.refused k) = told s (refused k)
 
--- the marks before the call stand beside the orders: the buffer that the source hands to `exchange_buffer` is the lane's spare, which they tell
+-- The answer of a service has the marks before the call beside the orders. They say which buffer the source hands to `exchange_buffer`: the lane's
+-- spare.
 abbrev pub servedStep : State → Served → Stepped
 servedStep s r = record { answer = serviced (r .event) (r .orders) (s .bank .core .frame .inSecond); state = record { bank = r .bank; buffers = r .buffers } }
 
 abbrev pub interruptedStep : State → Interrupted → Stepped
 interruptedStep s r = changed s (interrupted (r .event) (r .orders)) (r .core)
 
--- a call, of which all but the last two are the source's
+-- What each call does. All calls except the last two are the source's.
 abbrev pub act : ℕ → State → Call → Stepped
 act n s (enable-bidirectional receives) = commanded s (enableBidirectional receives (s .bank .core))
 act n s command-stop = changed s done (commandStop n (s .bank .core))

@@ -1,8 +1,7 @@
--- The calls that make a bank and command it: each as the source has it, or the number of its refusal, which leaves the bank as it was.
--- Stands for `from_lanes`, `enable_bidirectional`, `command_stop`, `command_throttles`, `command_special`, `command_pending`,
--- `next_command_frame`, `request_telemetry`, `cancel_telemetry_request`, `take_telemetry_request_sent` and `fallback_release_due` of
--- crates/ferrowasp-stm32-critical/src/dshot_bank.rs (Eirik2020/ferro-wasp, commit 9cb8aca1a6, Copyright (c) 2026 Kaldstrand, Apache-2.0),
--- changed: rewritten as definitions, over n lanes.
+-- The calls that make a bank and command it. Each does what the source does, or is refused with a number and leaves the bank as it was.
+-- Stands for `from_lanes`, `enable_bidirectional`, `command_stop`, `command_throttles`, `command_special`, `next_command_frame`, `request_telemetry`,
+-- `cancel_telemetry_request`, `take_telemetry_request_sent` and `fallback_release_due`. They are of crates/ferrowasp-stm32-critical/src/dshot_bank.rs
+-- (Eirik2020/ferro-wasp, commit 9cb8aca1a6, Copyright (c) 2026 Kaldstrand, Apache-2.0), changed: rewritten as definitions, over n lanes.
 -- Assumes nothing.
 use Prim.Native.Nat.{ℕ}
 use mathlib.Core.Bool.{Bool, true, false, not}
@@ -21,11 +20,11 @@ use Rattle.dshot_bank_spec.specs.Lanes.{any, isSome}
 use Rattle.dshot_bank_spec.specs.State.{Demand, MotorRun, Core, LaneReply, Bank}
 use Rattle.dshot_bank_spec.specs.With.{withDemand, withTelemetry, withCommandSequence, withFrame, withBidirectional}
 
--- a lane of which no window has been read
+-- a lane whose window was never read
 abbrev pub noReplies : LaneReply
 noReplies = record { reply = refused noReply; valid = 0; invalid = 0; consecutiveInvalid = 0 }
 
--- in the port the first lent buffer holds what each lane is sending, and the second its spare
+-- from_lanes. In the port each lane sends from the first lent buffer, and the second is its spare.
 unfoldable pub fromLanes : ℕ → Timing → Bank
 fromLanes n timing = record {
   core = record {
@@ -39,7 +38,7 @@ fromLanes n timing = record {
   replies = replicate n noReplies;
 }
 
--- whether the lanes can receive replies is the hardware's answer
+-- enable_bidirectional. Whether the lanes can receive replies is the hardware's answer.
 unfoldable pub enableBidirectional : Bool → Core → Answer Core
 enableBidirectional receives c =
     if not receives then refused repliesUnsupported else
@@ -47,13 +46,15 @@ enableBidirectional receives c =
 
 -- ---- demands
 
--- whether a motor is asked to turn
+-- whether some motor is asked to turn
 abbrev pub anyRequested : List ℕ → Bool
 anyRequested values = any (ltb 0) values
 
+-- command_stop
 unfoldable pub commandStop : ℕ → Core → Core
 commandStop n c = withDemand (record { requestedValues = replicate n 0; leaseStartedMs = c .demand .leaseStartedMs; leaseDurationMs = none }) c
 
+-- command_throttles
 unfoldable pub commandThrottles : ℕ → List ℕ → ℕ → ℕ → Core → Answer Core
 commandThrottles n commands now lease c =
     if c .frame .faulted then refused faulted else
@@ -63,10 +64,11 @@ commandThrottles n commands now lease c =
 
 -- ---- runs of commands
 
--- a lease that has run out counts as long as no service has found it so
+-- A lease that has run out still counts, until a service finds it.
 abbrev pub isRunning : Demand → Bool
 isRunning d = if isSome (d .leaseDurationMs) then true else anyRequested (d .requestedValues)
 
+-- command_special
 unfoldable pub commandSpecial : ℕ → CommandRun → Core → Answer Core
 commandSpecial motor sequence c =
     if c .frame .faulted then refused faulted else
@@ -84,16 +86,17 @@ pub record NextFrame : Type 0 where
   pub command : Option MotorCommand
   pub left : Option MotorRun
 
--- a spent run is cleared
+-- the next command of a run; a spent run is cleared
 abbrev pub nextOf : ℕ → Command → CommandRun → NextFrame
 nextOf motor Command.none sequence = record { command = none; left = none }
 nextOf motor (send value) sequence = record { command = some (record { motor = motor; command = value }); left = some (record { motor = motor; sequence = sequence }) }
 
+-- the next command of the run that the bank holds, if any
 abbrev pub nextOfRun : Option MotorRun → NextFrame
 nextOfRun none = record { command = none; left = none }
 nextOfRun (some run) = nextOf (run .motor) (nextValue 10 (run .sequence) .command) (nextValue 10 (run .sequence) .run)
 
--- a throttle demand cancels a run here, where a frame is about to start, and nowhere else
+-- next_command_frame. If a throttle is requested, the run is cancelled here, when a frame is about to start, and nowhere else.
 unfoldable pub nextCommandFrame : Core → NextFrame
 nextCommandFrame c =
     if anyRequested (c .demand .requestedValues) then record { command = none; left = none } else
@@ -101,21 +104,23 @@ nextCommandFrame c =
 
 -- ---- telemetry requests
 
+-- request_telemetry
 unfoldable pub requestTelemetry : ℕ → Core → Answer Core
 requestTelemetry motor c =
     if c .frame .faulted then refused faulted else
     if isSome (c .telemetry .request) then refused telemetryPending else
     given (withTelemetry (record { request = some motor; requestSent = c .telemetry .requestSent }) c)
 
+-- cancel_telemetry_request
 unfoldable pub cancelTelemetryRequest : Core → Core
 cancelTelemetryRequest c = withTelemetry (record { request = none; requestSent = c .telemetry .requestSent }) c
 
--- what take_telemetry_request_sent leaves, and what service does first
+-- the core that take_telemetry_request_sent leaves; service does the same first
 unfoldable pub clearRequestSent : Core → Core
 clearRequestSent c = withTelemetry (record { request = c .telemetry .request; requestSent = none }) c
 
 -- ---- no call of a bank
 
--- whether no frame set was released for two milliseconds, on a clock of 32 bits that may wrap
+-- fallback_release_due: whether no frame set was released for two milliseconds, on a clock of 32 bits that may wrap
 unfoldable pub fallbackReleaseDue : ℕ → ℕ → Bool
 fallbackReleaseDue now lastRelease = leb 2 (elapsed 32 lastRelease now)

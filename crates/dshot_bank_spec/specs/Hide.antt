@@ -1,4 +1,4 @@
--- What the captures of one lane may show in, and lists of calls that are alike but in them.
+-- What one lane's captures may change, and lists of calls that differ only in one lane's captures.
 -- The terms "alike" and "refused call" are document 01's.
 -- Assumes nothing.
 use Prim.Native.Nat.{ℕ, _+_, _*_, _<_, _≤_}
@@ -14,7 +14,7 @@ use Rattle.dshot_bank_spec.specs.State.{LaneReply, Bank}
 use Rattle.dshot_bank_spec.specs.Commands.{noReplies}
 use Rattle.dshot_bank_spec.specs.Calls.{Call, service-call, ReplyStats, Answer, done, refused, motor-sent, serviced, interrupted, replied, flag, counts, values, reply-counts, slots, State, Stepped}
 
--- ---- what one lane's captures may show in: the lane's record, and what is told of it
+-- ---- what one lane's captures may change: the lane's record, and what an answer says of it
 
 abbrev pub hideReplies : ℕ → List LaneReply → List LaneReply
 hideReplies lane l = set l lane noReplies
@@ -45,24 +45,25 @@ hideAnswer lane (values v) = values v
 hideAnswer lane (reply-counts r) = reply-counts (hideCounts lane r)
 hideAnswer lane (slots l) = slots l
 
+-- an answer and a state with one lane's replies and reply counts hidden
 abbrev pub hide : ℕ → Stepped → Stepped
 hide lane r = record { answer = hideAnswer lane (r .answer); state = hideState lane (r .state) }
 
--- ---- lists alike but in one lane's captures
+-- ---- lists that differ only in one lane's captures
 
--- two lists of calls, as long as each other, and related call by call
+-- two lists of calls of the same length, related call by call
 pub data CallByCall (R : Call → Call → Type 0) : List Call → List Call → Type 0 where
   none-left : CallByCall R [] []
   one-more : {c c′ : Call} {cs cs′ : List Call} → R c c′ → CallByCall R cs cs′ → CallByCall R (c ∷ cs) (c′ ∷ cs′)
 
--- the masks and samples of two services, alike but in the lane's mask and window
+-- the masks and samples of two services, which may differ only in the lane's mask and window
 pub record CapturesAlike (lane : ℕ) (m m′ s s′ : List ℕ) : Type 0 where
   pub long : length s ≡ length s′
   pub before : (i : ℕ) → i < 160 * lane → getD s i 0 ≡ getD s′ i 0
   pub after : (i : ℕ) → 160 * lane + 160 ≤ i → getD s i 0 ≡ getD s′ i 0
   pub masks : (i : ℕ) → (i ≡ lane → ⊥) → getD m i 0 ≡ getD m′ i 0
 
--- two calls alike: the same, or two services that differ in the lane's window and mask alone
+-- Two calls are alike if they are the same, or if they are services that differ only in the lane's window and mask.
 pub data Alike (lane : ℕ) : Call → Call → Type 0 where
   same : (c : Call) → Alike lane c c
   captured : (now : ℕ) (taken present : List Bool) {m m′ s s′ : List ℕ} → CapturesAlike lane m m′ s s′
@@ -71,9 +72,9 @@ pub data Alike (lane : ℕ) : Call → Call → Type 0 where
 abbrev pub AlikeAll : ℕ → List Call → List Call → Type 0
 AlikeAll lane = CallByCall (Alike lane)
 
--- ---- and in whether that lane has a capture
+-- ---- lists that may also differ in whether that lane has a capture
 
--- added to document 01's "alike", for a reply wire that is pulled: the two services may also differ in whether the lane's capture is present
+-- Added to document 01's "alike", for a reply wire that is pulled. The two services may also differ in whether the lane's capture is present.
 pub data WireAlike (lane : ℕ) : Call → Call → Type 0 where
   same-wired : (c : Call) → WireAlike lane c c
   wired : (now : ℕ) (taken : List Bool) {p p′ : List Bool} {m m′ s s′ : List ℕ}

@@ -1,6 +1,6 @@
--- One DMA interrupt: a stream that has completed, or failed, and what follows when the last lane's has.
+-- One DMA interrupt: a lane's stream has completed or failed. If it is the last lane's, the set goes on or ends.
 -- Stands for `on_dma_interrupt` of crates/ferrowasp-stm32-critical/src/dshot_bank.rs (Eirik2020/ferro-wasp, commit 9cb8aca1a6, Copyright (c) 2026
--- Kaldstrand, Apache-2.0), changed: rewritten as definitions, over n lanes, with the hardware's answers as parameters.
+-- Kaldstrand, Apache-2.0), changed: rewritten as definitions, over n lanes. The hardware's answers are parameters.
 -- Assumes nothing.
 use Prim.Native.Nat.{ℕ, _-_, _^_}
 use mathlib.Core.Bool.{Bool, true, false, not}
@@ -15,7 +15,7 @@ use Rattle.dshot_bank_spec.specs.Order.{Order, stop-frame, pause-and-cle
 use Rattle.dshot_bank_spec.specs.Replies.{wrappingAdd}
 use Rattle.dshot_bank_spec.specs.Send.{latchFault}
 
--- DshotInterruptEvent
+-- the Rust's `DshotInterruptEvent`
 pub data InterruptEvent : Type 0 where
   completed : InterruptEvent
   faulted : InterruptEvent
@@ -30,18 +30,18 @@ pub record Interrupted : Type 0 where
 abbrev pub completionBit : ℕ → ℕ
 completionBit motor = 2 ^ motor
 
--- ALL_MOTORS_COMPLETE
+-- the Rust's `ALL_MOTORS_COMPLETE`
 abbrev pub allComplete : ℕ → ℕ
 allComplete n = 2 ^ n - 1
 
--- self.completion_mask & completion_bit != 0
+-- the Rust's `self.completion_mask & completion_bit != 0`
 abbrev pub isComplete : ℕ → ℕ → Bool
 isComplete motor mask = not (eqb (bitAnd mask (completionBit motor)) 0)
 
 abbrev pub countCompletion : ℕ → Stats → Stats
 countCompletion motor s = withLaneCompletions (set (s .laneCompletions) motor (wrappingAdd (getD (s .laneCompletions) motor 0))) s
 
--- a lane's stream has completed; its window of samples is not counted
+-- A lane's stream has completed. Only a transmission is counted, and not a window of samples.
 unfoldable pub laneDone : ℕ → Core → Core
 laneDone motor c =
     withStats (if c .frame .receiving then c .stats else countCompletion motor (c .stats))
@@ -51,19 +51,19 @@ laneDone motor c =
 unfoldable pub frameDone : Core → Core
 frameDone c = withStats (withFramesCompleted (wrappingAdd (c .stats .framesCompleted)) (c .stats)) (withFrame (withBusy false (c .frame)) c)
 
--- the receive window opens: completions count from 0 again
+-- The receive window opens, and no lane is done yet.
 unfoldable pub windowOpened : Core → Core
 windowOpened c = withFrame (withCompletionMask 0 (withReceiving true (c .frame))) c
 
--- the receive window closes, and its replies wait to be decoded
+-- The receive window closes, and its replies wait to be decoded.
 unfoldable pub windowClosed : Core → Core
 windowClosed c = frameDone (withFrame (withRepliesWaiting true (withReceiving false (c .frame))) c)
 
--- self.bidirectional && !self.receiving
+-- the Rust's `self.bidirectional && !self.receiving`
 abbrev pub opensWindow : Frame → Bool
 opensWindow f = if f .bidirectional then not (f .receiving) else false
 
--- turned: whether every lane turned to receive; back: whether every lane turned back
+-- The hardware's answers. `turned`: whether every lane turned to receive. `back`: whether every lane turned back.
 module _ (n motor : ℕ) (complete error turned back : Bool) where
   abbrev pub interrupted : InterruptEvent → List Order → Core → Interrupted
   interrupted e l c = record { event = e; orders = pause-and-clear motor ∷ l; core = c }
@@ -71,7 +71,7 @@ module _ (n motor : ℕ) (complete error turned back : Bool) where
   abbrev pub latched : Bool → InterruptEvent → List Order → Core → Interrupted
   latched isSpurious e l c = interrupted e (l ++ latchOrders n) (latchFault n isSpurious c)
 
-  -- if self.completion_mask == ALL_MOTORS_COMPLETE { .. }
+  -- the Rust's `if self.completion_mask == ALL_MOTORS_COMPLETE { .. }`
   unfoldable pub afterLane : Core → Interrupted
   afterLane c =
       if not (eqb (c .frame .completionMask) (allComplete n)) then interrupted completed [] c else
@@ -81,6 +81,7 @@ module _ (n motor : ℕ) (complete error turned back : Bool) where
       (if back then interrupted completed (end-receive ∷ []) (windowClosed c) else latched false faulted (end-receive ∷ []) c) else
       interrupted completed (stop-frame ∷ []) (frameDone c)
 
+  -- on_dma_interrupt
   unfoldable pub onDmaInterrupt : Core → Interrupted
   onDmaInterrupt c =
       if c .frame .faulted then interrupted faulted [] c else

@@ -14,22 +14,22 @@ use Rattle.dshot_bank_spec.specs.Steps.{step}
 
 -- ---- traces
 
--- each call's answer, with the state that it left
+-- the trace of a list: each call's answer, with the state that it left
 abbrev pub trace : ℕ → State → List Call → List Stepped
 trace n s [] = []
 trace n s (c ∷ cs) = step n s c ∷ trace n (step n s c .state) cs
 
--- the state that a list leaves
+-- the state after a list
 abbrev pub run : ℕ → State → List Call → State
 run n s [] = s
 run n s (c ∷ cs) = run n (step n s c .state) cs
 
--- the state that the source's calls leave, with nothing refused by the port
+-- the state after the source's calls, if the port refuses none
 abbrev pub sourceRun : ℕ → State → List Call → State
 sourceRun n s [] = s
 sourceRun n s (c ∷ cs) = sourceRun n (act n s c .state) cs
 
--- where a list of demand 3 starts: at a new bank, set to bidirectional, with two buffers
+-- where a list of demand 3 starts: a new bank, set to bidirectional, with two buffers
 abbrev pub fresh : ℕ → Timing → Buffers → State
 fresh n timing buffers = act n (record { bank = fromLanes n timing; buffers = buffers }) (enable-bidirectional true) .state
 
@@ -60,7 +60,7 @@ abbrev pub acting : List Call → List Call
 acting [] = []
 acting (c ∷ cs) = if isLook c then acting cs else c ∷ acting cs
 
--- what is left of a list's trace without them
+-- what is left of a list's trace without those calls
 abbrev pub actingOf : List Call → List Stepped → List Stepped
 actingOf [] rs = []
 actingOf (c ∷ cs) [] = []

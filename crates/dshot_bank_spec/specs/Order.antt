@@ -1,5 +1,5 @@
--- Orders to the hardware: the calls of the source's `DshotLanes` that change it, with their arguments. The calls that only ask are no orders:
--- their answers come with the bank's call.
+-- Orders to the hardware: the calls of the source's `DshotLanes` that change the hardware, with their arguments. The calls that only ask are no
+-- orders. Their answers come with the bank's call.
 -- Stands for `DshotLanes` of crates/ferrowasp-stm32-critical/src/dshot_bank.rs (Eirik2020/ferro-wasp, commit 9cb8aca1a6, Copyright (c) 2026
 -- Kaldstrand, Apache-2.0), changed: rewritten as definitions.
 -- Assumes nothing.
@@ -17,14 +17,14 @@ pub data Order : Type 0 where
   begin-receive : Order
   end-receive : Order
 
--- of a latched fault over n lanes: outputs low, then every stream paused
+-- the orders of a latched fault over n lanes: outputs low, then every stream paused
 abbrev pub latchOrders : ℕ → List Order
 latchOrders n = force-outputs-low ∷ tabulate n pause-and-clear
 
--- of a frame set that starts: every buffer exchanged, then every stream enabled, then the timers
+-- the orders of a frame set that starts: every buffer exchanged, then every stream enabled, then the timers started
 abbrev pub startOrders : ℕ → List ℕ → List Order
 startOrders n firstDuties = tabulate n exchange-buffer ++ (tabulate n start-dma ++ (start-frame firstDuties ∷ []))
 
--- of a frame set whose exchange is refused at a lane: the exchanges up to it, then those of the latched fault
+-- the orders of a frame set if a lane refuses its buffer: the exchanges up to that lane, then those of the latched fault
 abbrev pub refusedOrders : ℕ → ℕ → List Order
 refusedOrders n lane = tabulate (lane + 1) exchange-buffer ++ latchOrders n

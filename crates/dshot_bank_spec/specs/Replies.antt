@@ -1,6 +1,6 @@
--- Decoding the last receive window of each lane, and the counts that are kept of it.
+-- Reading each lane's last receive window, and the counts of its replies.
 -- Stands for `decode_replies` of crates/ferrowasp-stm32-critical/src/dshot_bank.rs (Eirik2020/ferro-wasp, commit 9cb8aca1a6, Copyright (c) 2026
--- Kaldstrand, Apache-2.0), changed: rewritten as definitions, over n lanes, with the windows in one buffer.
+-- Kaldstrand, Apache-2.0), changed: rewritten as definitions, over n lanes. The windows are in one buffer.
 -- Assumes nothing.
 use Prim.Native.Nat.{ℕ, _+_, _-_, _%_, _^_, min}
 use mathlib.Core.Bool.{Bool, false}
@@ -22,11 +22,11 @@ wrappingAdd count = (count + 1) % 2 ^ 32
 abbrev pub saturatingAdd : ℕ → ℕ
 saturatingAdd count = min (count + 1) (2 ^ 32 - 1)
 
--- a lane's window: 160 samples of the capture buffer
+-- a lane's window: its 160 samples of the capture buffer
 abbrev pub window : List ℕ → ℕ → List ℕ
 window samples lane = part 160 lane samples
 
--- a lane's reply: what the reader makes of its window and mask with extended telemetry off, or no reply where no capture is present
+-- A lane's reply: what the reader makes of its window and mask, with EDT off. If no capture is present, it is 7 (no reply).
 abbrev pub readWindow : Bool → List ℕ → ℕ → Answer Reading
 readWindow present samples mask = if present then sampledReply 3 samples mask false else refused noReply
 
@@ -42,5 +42,6 @@ abbrev pub decodeLane : List Bool → List ℕ → List ℕ → List LaneReply �
 decodeLane present masks samples old lane =
     countReply (readWindow (getD present lane false) (window samples lane) (getD masks lane 0)) (getD old lane noReplies)
 
+-- decode_replies
 unfoldable pub decodeReplies : ℕ → List Bool → List ℕ → List ℕ → List LaneReply → List LaneReply
 decodeReplies n present masks samples old = tabulate n (decodeLane present masks samples old)

@@ -1,7 +1,7 @@
--- A latched fault, and a frame set that is sent: the exchange of the buffers, and what starts.
+-- A latched fault, and the sending of a frame set: the exchange of the buffers, and the start.
 -- Stands for `latch_fault` and `send_requested` of crates/ferrowasp-stm32-critical/src/dshot_bank.rs (Eirik2020/ferro-wasp, commit 9cb8aca1a6,
--- Copyright (c) 2026 Kaldstrand, Apache-2.0), changed: rewritten as definitions, over n lanes, with two buffers and a mark per lane for the
--- source's exchanged buffers, so that no spare can be missing.
+-- Copyright (c) 2026 Kaldstrand, Apache-2.0), changed: rewritten as definitions, over n lanes. Two buffers and a mark per lane stand for the source's
+-- exchanged buffers, so no spare can be missing.
 -- Assumes nothing.
 use Prim.Native.Nat.{ℕ}
 use mathlib.Core.Bool.{Bool, true, false, not}
@@ -21,12 +21,13 @@ use Rattle.dshot_bank_spec.specs.FrameSet.{nextSet, packetsSent, firstDu
 
 -- ---- a fault
 
+-- the counts after a fault: a fault that is latched again is not counted again
 abbrev pub countFault : Bool → Bool → Stats → Stats
 countFault faulted spurious s =
     withSpuriousInterrupts (if spurious then wrappingAdd (s .spuriousInterrupts) else s .spuriousInterrupts)
     (withDmaFaults (if faulted then s .dmaFaults else wrappingAdd (s .dmaFaults)) s)
 
--- the orders of a fault are `latchOrders`
+-- latch_fault; its orders are `latchOrders`
 unfoldable pub latchFault : ℕ → Bool → Core → Core
 latchFault n spurious c =
     commandStop n
@@ -37,17 +38,17 @@ latchFault n spurious c =
 
 -- ---- the exchange
 
--- the marks of the first lanes turned: what they sent is spare, and their spare is sent
+-- The marks of the first lanes turn: what they sent is now spare, and their spare is sent.
 abbrev pub turnMarks : ℕ → ℕ → List Bool → List Bool
 turnMarks n turned inSecond = tabulate n (λ i. if ltb i turned then not (getD inSecond i false) else getD inSecond i false)
 
--- whether a frame set started, the orders, and the core after it
+-- whether a frame set started, the orders, and the core after the call
 pub record Sent : Type 0 where
   pub started : Bool
   pub orders : List Order
   pub core : Core
 
--- a lane refuses its buffer: those before it have turned
+-- Lane k refuses its buffer. The lanes before it have turned.
 unfoldable pub exchangeRefused : ℕ → ℕ → Core → Sent
 exchangeRefused n k c = record {
   started = false;
@@ -55,27 +56,29 @@ exchangeRefused n k c = record {
   core = latchFault n false (withFrame (withInSecond (turnMarks n k (c .frame .inSecond)) (c .frame)) c);
 }
 
--- a request that the frame carries is sent
+-- If the frame carries a request, the request is sent and no longer pending.
 abbrev pub carry : Option ℕ → Telemetry → Telemetry
 carry request t = if isSome request then record { request = none; requestSent = request } else t
 
+-- the core after a frame set has started
 unfoldable pub frameStarted : ℕ → ℕ → Option ℕ → Core → Core
 frameStarted n now request c =
     withTelemetry (carry request (c .telemetry))
     (withStats (withFramesStarted (wrappingAdd (c .stats .framesStarted)) (c .stats))
     (withFrame (withBusy true (withCompletionMask 0 (withStartedMs now (withInSecond (turnMarks n n (c .frame .inSecond)) (c .frame))))) c))
 
--- taken: for each lane the hardware's answer, whether it took its buffer
+-- The exchange of the buffers. `taken` has the hardware's answer for each lane: whether it took its buffer.
 unfoldable pub exchangeBuffers : ℕ → ℕ → List Bool → Option ℕ → List ℕ → Core → Sent
 exchangeBuffers n now taken request duties c =
     if ltb (position not taken) n then exchangeRefused n (position not taken) c else
     record { started = true; orders = startOrders n duties; core = frameStarted n now request c }
 
+-- send_requested
 unfoldable pub sendRequested : ℕ → ℕ → List Bool → Core → Sent
 sendRequested n now taken c =
     exchangeBuffers n now taken (nextSet n c .telemetryRequest) (firstDuties n (c .timing) (packetsSent n c))
     (withCommandSequence (nextCommandFrame c .left) c)
 
--- what sending leaves in the buffers: all is written before the first exchange
+-- the buffers after sending; all lanes are written before the first exchange
 abbrev pub sentBuffers : ℕ → Core → Buffers → Buffers
 sentBuffers n c b = encodeLanes n (c .timing) (c .frame .inSecond) (packetsSent n c) b

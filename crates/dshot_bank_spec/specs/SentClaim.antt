@@ -1,5 +1,4 @@
--- What is claimed of a frame set that starts: the sequence that each lane is then seen to send reads back as what was to be sent.
--- What is written reads back.
+-- What is claimed of a frame set that starts: what is written reads back. The view of each lane shows a sequence that reads as what was to be sent.
 -- Assumes nothing.
 use Prim.Native.Nat.{ℕ, _%_, _<_}
 use mathlib.Core.Path.{_≡_}
@@ -17,12 +16,12 @@ use Rattle.dshot_bank_spec.specs.Service.{ServiceEvent, demandExpired, e
 use Rattle.dshot_bank_spec.specs.Calls.{service-call, sending, serviced, slots, State}
 use Rattle.dshot_bank_spec.specs.Steps.{step}
 
--- the core with which a service comes to send
+-- the core at the moment when a service begins to send
 abbrev pub sendingCore : ℕ → ℕ → Core → Core
 sendingCore n now c = repliesRead (expireLease n (demandExpired now (clearRequestSent c .demand)) (clearRequestSent c))
 
 module _ (n : ℕ) (s after : State) (now : ℕ) (firstDuties : List ℕ) (lane : ℕ) where
-  -- with the lane's duty of the order to start, the sequence seen reads back as the lane's value, telemetry bit and kind of checksum
+  -- The view shows a sequence. With the lane's duty of the order to start, it reads as the lane's value, telemetry bit and kind of checksum.
   pub record ReadsBack : Type 0 where
     pub part : List ℕ
     pub seen : step n after (sending lane) .answer ≡ slots part
@@ -33,7 +32,7 @@ module _ (n : ℕ) (s after : State) (now : ℕ) (firstDuties : List ℕ) (lane 
           kind = kindSent (sendingCore n now (s .bank .core));
         })
 
--- of each service that orders a frame to start, where the timing's high times differ
+-- the claim, for each service that orders a frame to start, if the timing's high times differ
 abbrev pub SentReadsBack : Type 0
 SentReadsBack = (n : ℕ) (s : State) (now : ℕ) (taken present : List Bool) (masks samples : List ℕ) (e : ServiceEvent) (orders : List Order) (inSecond : List Bool) (firstDuties : List ℕ)
     → step n s (service-call now taken present masks samples) .answer ≡ serviced e (orders ++ (start-frame firstDuties ∷ [])) inSecond

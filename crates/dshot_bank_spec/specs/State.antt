@@ -1,6 +1,6 @@
--- What a bank holds: the fields of the source's `DshotBank`, a mark per lane for the source's spare buffers, and the two lent buffers.
--- Stands for `DshotBank`, `DshotStats` and `DshotReplyStats` of crates/ferrowasp-stm32-critical/src/dshot_bank.rs (Eirik2020/ferro-wasp,
--- commit 9cb8aca1a6, Copyright (c) 2026 Kaldstrand, Apache-2.0), changed: rewritten as definitions, in groups, with lists for the lanes.
+-- What a bank holds: the fields of the source's `DshotBank`. A mark per lane and two lent buffers stand for the source's spare buffers.
+-- Stands for `DshotBank`, `DshotStats` and `DshotReplyStats` of crates/ferrowasp-stm32-critical/src/dshot_bank.rs (Eirik2020/ferro-wasp, commit
+-- 9cb8aca1a6, Copyright (c) 2026 Kaldstrand, Apache-2.0), changed: rewritten as definitions. The fields are in groups, and the lanes in lists.
 -- Assumes nothing.
 use Prim.Native.Nat.{ℕ, _-_}
 use mathlib.Core.Bool.{Bool}
@@ -12,28 +12,28 @@ use Rattle.dshot_reply_spec.specs.Value.{Reading}
 use Rattle.dshot_spec.specs.Timing.{Timing}
 use Rattle.dshot_spec.specs.Command.{CommandRun}
 
--- requested_values, lease_started_ms, lease_duration_ms
+-- the fields requested_values, lease_started_ms, lease_duration_ms
 pub record Demand : Type 0 where
   pub requestedValues : List ℕ
   pub leaseStartedMs : ℕ
   pub leaseDurationMs : Option ℕ
 
--- a lease kept as a number, where the Rust has an `Option<u32>`: 0 is none, else the duration is one less
+-- The code keeps a lease as one number, and the Rust as an `Option<u32>`. 0 is no lease. Any other number is the duration + 1.
 abbrev pub leaseOf : ℕ → Option ℕ
 leaseOf over = if eqb over 0 then none else some (over - 1)
 
--- telemetry_request, telemetry_request_sent
+-- the fields telemetry_request, telemetry_request_sent
 pub record Telemetry : Type 0 where
   pub request : Option ℕ
   pub requestSent : Option ℕ
 
--- what command_sequence holds: a motor and its run
+-- what the field command_sequence holds: a motor and its run
 pub record MotorRun : Type 0 where
   pub motor : ℕ
   pub sequence : CommandRun
 
--- frame_started_ms, completion_mask, busy, faulted, bidirectional, receiving, replies_waiting; whether `replies` holds some; and for each lane
--- whether the second buffer holds the sequence that it is sending, and the first its spare
+-- The fields frame_started_ms, completion_mask, busy, faulted, bidirectional, receiving, replies_waiting. `repliesHeld` says whether the field
+-- `replies` holds some. `inSecond` is the lanes' marks: if it is set, the lane sends from the second buffer, and the first is its spare.
 pub record Frame : Type 0 where
   pub startedMs : ℕ
   pub completionMask : ℕ
@@ -45,7 +45,7 @@ pub record Frame : Type 0 where
   pub repliesHeld : Bool
   pub inSecond : List Bool
 
--- stats
+-- the field stats
 pub record Stats : Type 0 where
   pub framesStarted : ℕ
   pub framesCompleted : ℕ
@@ -56,7 +56,7 @@ pub record Stats : Type 0 where
   pub dmaFaults : ℕ
   pub spuriousInterrupts : ℕ
 
--- all of the bank but the replies and their counts: what no capture may touch
+-- all of the bank except the replies and their counts: what no capture may touch
 pub record Core : Type 0 where
   pub timing : Timing
   pub demand : Demand
@@ -65,13 +65,14 @@ pub record Core : Type 0 where
   pub frame : Frame
   pub stats : Stats
 
--- one lane's reply as it was decoded last, which stays here when it is taken, and its part of reply_stats
+-- One lane's last reply, and its part of the field reply_stats. The reply stays here when it is taken.
 pub record LaneReply : Type 0 where
   pub reply : Answer Reading
   pub valid : ℕ
   pub invalid : ℕ
   pub consecutiveInvalid : ℕ
 
+-- the whole bank
 pub record Bank : Type 0 where
   pub core : Core
   pub replies : List LaneReply

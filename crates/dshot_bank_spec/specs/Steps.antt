@@ -1,5 +1,5 @@
--- One call of the port: refused, or what the source does.
--- Added around the Rust's calls, for document 01's refusals of a wrong length and of a lane that there is not.
+-- One call of the port: it is refused, or it does what the source does.
+-- Added around the Rust's calls: document 01 refuses a wrong length and a lane that does not exist.
 -- Assumes nothing.
 use Prim.Native.Nat.{ℕ, _*_}
 use mathlib.Core.Bool.{Bool, false}
@@ -10,13 +10,13 @@ use Rattle.dshot_reply_spec.specs.Answer.{if_then_else_}
 use Rattle.dshot_bank_spec.specs.State.{Buffers}
 use Rattle.dshot_bank_spec.specs.Calls.{Call, enable-bidirectional, command-stop, command-throttles, command-special, request-telemetry, cancel-telemetry-request, take-telemetry-request-sent, service-call, on-dma-interrupt, take-replies, is-bidirectional, is-faulted, stats, requested-values, command-pending, reply-stats, sending, lend, refused, State, Stepped, told, act}
 
--- ---- what only the port refuses: a lent buffer of the wrong length, and then a lane that there is not. The source's types allow neither
+-- ---- What only the port refuses: first a lent buffer of the wrong length, then a lane that does not exist. The source's types allow neither.
 
--- the lengths of the two sequence buffers
+-- whether the two sequence buffers have the right length: 16 slots a lane
 abbrev pub slotsFit : ℕ → ℕ → ℕ → Bool
 slotsFit n first second = if eqb first (16 * n) then eqb second (16 * n) else false
 
--- and of the captures
+-- and the captures too: 160 samples a lane
 abbrev pub serviceFits : ℕ → ℕ → ℕ → ℕ → Bool
 serviceFits n first second captures = if slotsFit n first second then eqb captures (160 * n) else false
 
@@ -29,7 +29,7 @@ lengthRefusal fit otherwise = if fit then otherwise else wrongLength
 abbrev pub laneRefusal : ℕ → ℕ → ℕ
 laneRefusal n motor = if ltb motor n then 0 else noSuchMotor
 
--- the number of the refusal, or 0
+-- the number of the port's refusal; 0 if it does not refuse
 unfoldable pub portRefusal : ℕ → State → Call → ℕ
 portRefusal n s (service-call now taken present masks samples) = lengthRefusal (serviceFits n (length (s .buffers .first)) (length (s .buffers .second)) (length samples)) 0
 portRefusal n s (sending motor) = lengthRefusal (buffersFit n (s .buffers)) (laneRefusal n motor)
@@ -55,5 +55,6 @@ portRefusal n s (lend buffers) = 0
 abbrev pub refuseOr : State → ℕ → Stepped → Stepped
 refuseOr s number acted = if eqb number 0 then acted else told s (refused number)
 
+-- a call of the port: the refusal leaves the state as it was
 unfoldable pub step : ℕ → State → Call → Stepped
 step n s call = refuseOr s (portRefusal n s call) (act n s call)

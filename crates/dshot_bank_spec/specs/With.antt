@@ -1,5 +1,5 @@
 -- A record of the bank with one field replaced.
--- For the Rust's assignments to a field of `self`.
+-- Stands for the Rust's assignments to a field of `self`.
 -- Assumes nothing.
 use Prim.Native.Nat.{ℕ}
 use mathlib.Core.Bool.{Bool}
