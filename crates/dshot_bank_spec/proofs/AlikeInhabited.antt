@@ -1,5 +1,5 @@
--- Which lists are alike but in one lane's captures: those with any calls, and with any window and mask of that lane.
--- A definition of "alike" that left some of these out would not prove this.
+-- Lists that differ only in one lane's captures may have any calls, and any window and mask of that lane. A definition of "alike" that left some of
+-- these out would not prove this.
 -- Assumes nothing.
 use mathlib.Core.Path.{_≡_, _∙_, refl, sym, ap}
 use Prim.Native.Nat.{ℕ, zero, suc, _+_, _-_, _*_, _<_, _≤_}

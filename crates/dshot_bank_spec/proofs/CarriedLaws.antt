@@ -1,4 +1,4 @@
--- Which frame carries a pending telemetry request: an ordinary one, and no frame of a command. For every count of lanes and every state.
+-- A frame without a command carries a pending telemetry request. A frame of a command does not. For every number of lanes and every state.
 -- Assumes nothing.
 use mathlib.Core.Path.{_≡_, _∙_, refl, ap}
 use Prim.Native.Nat.{ℕ, _<_, _≤_}

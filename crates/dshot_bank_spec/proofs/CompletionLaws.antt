@@ -1,4 +1,4 @@
--- What a lane's completion counts, and what the last lane's does: for every count of lanes and every state.
+-- What a lane's completion counts, and what the last lane's completion does. For every number of lanes and every state.
 -- Assumes nothing.
 use mathlib.Core.Path.{_≡_, _∙_, refl, sym, ap}
 use Prim.Native.Nat.{ℕ, _^_, _-_, _<_}

@@ -1,4 +1,4 @@
--- How counts go on: they wrap at 2^32, but for that of consecutive invalid replies, which stops at its largest value.
+-- Counts wrap at 2^32. Only the count of consecutive invalid replies does not: it stops at its largest value.
 -- Assumes nothing.
 use mathlib.Core.Path.{_≡_, refl}
 use Prim.Native.Nat.{ℕ, _+_, _-_, _^_, _<_}

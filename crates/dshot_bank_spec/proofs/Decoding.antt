@@ -1,4 +1,5 @@
--- What a service that reads stores of a capture that renders a reply word, a damaged one, or one with a moved edge: the reader's theorems.
+-- What a service that reads stores of three captures: one that renders a reply word, a damaged one, and one with a moved edge. It follows from the
+-- reader's theorems.
 -- Assumes nothing.
 use mathlib.Core.Path.{_∙_, refl, sym, subst}
 use mathlib.Core.Bool.{false}

@@ -1,4 +1,4 @@
--- Where `enable_bidirectional` is refused, what it changes, and that `is_bidirectional` tells it: for every state.
+-- When `enable_bidirectional` is refused, what it changes, and that `is_bidirectional` says so. For every state.
 -- Assumes nothing.
 use mathlib.Core.Path.{_≡_, refl}
 use Prim.Native.Nat.{ℕ}

@@ -1,4 +1,4 @@
--- When the fallback must release a service: exactly where two milliseconds have passed since the last release, whether the clock has wrapped or not.
+-- The fallback must release a service exactly if two milliseconds have passed since the last release. The clock may have wrapped or not.
 -- Assumes nothing.
 use mathlib.Core.Path.{_≡_, ap}
 use mathlib.Core.Bool.{true}

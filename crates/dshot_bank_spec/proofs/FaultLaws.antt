@@ -1,4 +1,4 @@
--- What a latched fault clears, and that a faulted bank sends nothing: for every count of lanes and every state.
+-- What a latched fault clears, and that a faulted bank sends nothing. For every number of lanes and every state.
 -- Assumes nothing.
 use mathlib.Core.Path.{_≡_, refl, sym}
 use Prim.Native.Nat.{ℕ}

@@ -1,5 +1,5 @@
--- What is equal with one lane hidden is equal in every other lane: replies and counts as stored, replies as handed out, and counts as told. All else of
--- a state, and every other answer, is equal.
+-- What is equal with one lane hidden is equal in every other lane. This holds of stored replies and counts, of replies that are handed out, and of
+-- counts in an answer. All else of a state, and every other answer, is equal.
 -- Assumes nothing.
 use mathlib.Core.Path.{_≡_, _∙_, refl, sym, ap}
 use mathlib.Core.Bool.{Bool, true, false}

@@ -1,4 +1,4 @@
--- Which DMA interrupt is due, and that any other latches a fault: for every count of lanes and every state.
+-- Which DMA interrupt is due, and that any other latches a fault. For every number of lanes and every state.
 -- Assumes nothing.
 use mathlib.Core.Path.{_≡_, _∙_, refl, sym, ap}
 use Prim.Native.Nat.{ℕ, zero, _+_, _*_, _/_, _%_, min, max}

@@ -1,5 +1,5 @@
--- One lane's captures, and whether it has one, show in that lane's reply and reply counts alone, and looks change nothing, over every list of calls
--- and for every count of lanes.
+-- One lane's captures, and whether it has one, change only that lane's reply and reply counts. Looks change nothing. This holds over every list of
+-- calls and for every number of lanes.
 -- Assumes nothing.
 use mathlib.Core.Path.{_≡_, _∙_, refl, sym, ap}
 use Prim.Native.Nat.{ℕ, _+_, _*_, _<_, _≤_}
@@ -58,7 +58,7 @@ picked : {A B : Type 0} (f : A → B) (b : Bool) (x x′ y y′ : A) → f x ≡
 picked f true x x′ y y′ p q = p
 picked f false x x′ y y′ p q = q
 
--- what a service makes of the lane's captures p, m and s, or p′, m′ and s′, and of the replies before it, r or r′
+-- what a service makes of the lane's captures p, m, s (or p′, m′, s′) and of the replies before it, r (or r′)
 module _ (n lane now : ℕ) (taken p p′ : List Bool) (m m′ s s′ : List ℕ) (r r′ : List LaneReply) (b : Buffers)
     (er : hideReplies lane r ≡ hideReplies lane r′)
     (ep : (k : ℕ) → (k ≡ lane → ⊥) → getD p k false ≡ getD p′ k false)

@@ -1,4 +1,4 @@
--- Laws of lists over the lanes, for every count of lanes: what a loop over them keeps, what it ends with, and lists that differ at one lane.
+-- Laws of lists over the lanes, for every number of lanes. What a loop over the lanes keeps, what it ends with, and lists that differ at one lane.
 -- Assumes nothing.
 use mathlib.Core.Path.{_≡_, _∙_, refl, sym, ap, subst}
 use Prim.Native.Nat.{ℕ, zero, suc, _+_, _<_, _≤_}

@@ -1,4 +1,4 @@
--- No throttle outlives its lease: a service that finds the lease expired sends a set without throttle.
+-- No throttle outlives its lease. If a service finds the lease expired, it sends a set without throttle.
 -- Assumes nothing.
 use mathlib.Core.Path.{_≡_, _∙_, refl, ap}
 use mathlib.Core.Bool.{Bool, true, false, not, true≢false}

@@ -1,4 +1,4 @@
--- A demand lasts as long as its lease: until it expires a service sends what is requested, and each expiry is counted.
+-- A demand lasts as long as its lease. Until the lease expires, a service sends what is requested. Each expiry is counted.
 -- Assumes nothing.
 use mathlib.Core.Path.{_≡_, _∙_, refl, sym, ap, subst}
 use mathlib.Core.Logic.{_↔_}

@@ -1,4 +1,4 @@
--- What the calls that only look tell, of every state, and after the calls whose effect they show.
+-- What the calls that only look answer, in every state and after the calls whose effect they show.
 -- Assumes nothing.
 use mathlib.Core.Path.{_≡_, _∙_, refl, sym, ap}
 use Prim.Native.Nat.{ℕ, _<_, _≤_}

@@ -1,4 +1,4 @@
--- What a new bank tells, for every count of lanes, every timing and every two buffers.
+-- What a new bank answers, for every number of lanes, every timing and every two buffers.
 -- Assumes nothing.
 use mathlib.Core.Path.{_≡_, refl}
 use Prim.Native.Nat.{ℕ, _<_}

@@ -1,4 +1,5 @@
--- What the port refuses, of every state: wrong lengths with 13, then a lane that there is not with 12; and nothing where lengths and lane are right.
+-- What the port refuses, in every state. First come wrong lengths with 13 (wrong length), then a lane that does not exist with 12 (no such motor). If
+-- lengths and lane are right, it refuses nothing.
 -- Assumes nothing.
 use mathlib.Core.Path.{_≡_, _∙_, refl, sym, ap}
 use Prim.Native.Nat.{ℕ, _*_, _≤_, _<_}

@@ -1,4 +1,4 @@
--- What `command_special` refuses and queues, and where `command_pending` tells of a run: for every state, lane and run.
+-- What `command_special` refuses and queues, and when `command_pending` says that a run is pending. For every state, lane and run.
 -- Assumes nothing.
 use mathlib.Core.Path.{_≡_, _∙_, refl, sym, ap}
 use Prim.Native.Nat.{ℕ, _<_}

@@ -1,4 +1,4 @@
--- What a refused call and a call that only looks leave as it was, and that a list goes on as if they were not in it.
+-- A refused call and a call that only looks leave the state as it was. A list goes on as if they were not in it.
 -- Assumes nothing.
 use mathlib.Core.Path.{_≡_, _∙_, refl, sym, ap}
 use Prim.Native.Nat.{ℕ}
@@ -96,7 +96,8 @@ accepted-port n s c e =
     let b = eqb k 0 in
     eqb-true k 0 (not-second b (under (λ (r : Stepped). isRefused (r .answer)) b (act n s c) (told s (refused k)) ∙ e) true≢false .0)
 
--- b: whether the first call is left out; rest: what is left of the calls after it, and left: of their trace, by the state that they start at
+-- b: whether the first call is left out. rest: what is left of the calls after it. left: what is left of their trace. Both depend on the state at the
+-- start.
 one-left-out : (n : ℕ) (s : State) (c : Call) (b : Bool) (rest : State → List Call) (left : State → List Stepped) → (b ≡ true → step n s c .state ≡ s)
     → ((t : State) → trace n t (rest t) ≡ left t)
     → trace n s (pick b (rest s) (c ∷ rest (step n s c .state))) ≡ pick b (left (step n s c .state)) (step n s c ∷ left (step n s c .state))

@@ -1,4 +1,4 @@
--- What is counted of the replies, and that they are handed out once: for every count of lanes and every state.
+-- What is counted of the replies, and that they are handed out once. For every number of lanes and every state.
 -- Assumes nothing.
 use mathlib.Core.Path.{_≡_, _∙_, refl, sym, ap}
 use Prim.Native.Nat.{ℕ, _+_, _%_, _^_, _<_}

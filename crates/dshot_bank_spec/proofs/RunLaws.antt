@@ -1,4 +1,4 @@
--- How a run of commands goes on, and that a throttle demand cancels it only where a frame is about to start: for every state.
+-- How a run of commands goes on. A throttle demand cancels it only when a frame is about to start. For every state.
 -- Assumes nothing.
 use mathlib.Core.Path.{_≡_, _∙_, refl, sym, ap, subst}
 use Prim.Native.Nat.{ℕ, _<_, _≤_}
@@ -62,7 +62,7 @@ module _ (n now : ℕ) (taken present : List Bool) (masks samples : List ℕ) (r
   abbrev after : Option MotorRun
   after = serviceCore n now taken present masks samples replies buffers c .bank .core .commandSequence
 
-  -- a throttle demand in force cancels a run where a frame is about to start: document 01, "only if a frame starts while it is in force"
+  -- If a throttle demand is in force when a frame is about to start, it cancels a run. Document 01: "only if a frame starts while it is in force".
   pub demand-cancels : demandExpired now (c .demand) ≡ false
       → (i : ℕ) → i < length (c .demand .requestedValues) → 0 < getD (c .demand .requestedValues) i 0 → after ≡ none
   unfolding sendRequested exchangeBuffers exchangeRefused latchFault commandStop frameStarted

@@ -1,4 +1,4 @@
--- What a service that comes to send leaves: where every lane takes its buffer, and where one refuses it. For every count of lanes and every state.
+-- What a service leaves when it begins to send: if every lane takes its buffer, and if one refuses it. For every number of lanes and every state.
 -- Assumes nothing.
 use mathlib.Core.Path.{_≡_, _∙_, refl, sym, ap, subst}
 use Prim.Native.Nat.{ℕ, _<_, _≤_}

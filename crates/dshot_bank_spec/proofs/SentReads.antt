@@ -1,4 +1,4 @@
--- The sequence that each lane is seen to send, after a service that orders a frame to start, reads back as what was to be sent.
+-- A service orders a frame to start. Then the view of each lane shows a sequence that reads back as what was to be sent.
 -- Assumes nothing.
 use mathlib.Core.Path.{_≡_, _∙_, refl, sym, ap, subst, subst₂}
 use Prim.Native.Nat.{ℕ, zero, suc, _+_, _*_, _%_, _<_}

@@ -1,4 +1,4 @@
--- What a service does with a frame in flight: its event, its counts and what it leaves, for every count of lanes and every state.
+-- What a service does while a frame is in flight: its event, its counts and what it leaves. For every number of lanes and every state.
 -- Assumes nothing.
 use mathlib.Core.Path.{_≡_, _∙_, refl, sym, ap, subst}
 use Prim.Native.Nat.{ℕ, _<_, _≤_}

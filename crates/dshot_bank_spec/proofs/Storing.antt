@@ -1,4 +1,4 @@
--- What a service stores of each lane: where it reads, what the reader makes of the lane's window and mask, and else what was there.
+-- What a service stores of each lane. If it reads, that is what the reader makes of the lane's window and mask. If not, it is what was there.
 -- Assumes nothing.
 use mathlib.Core.Path.{_≡_, _∙_, refl, sym, ap, subst}
 use Prim.Native.Nat.{ℕ, _<_}

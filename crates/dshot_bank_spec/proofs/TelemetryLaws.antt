@@ -1,4 +1,4 @@
--- What `request_telemetry` refuses and sets, what `cancel_telemetry_request` clears, and that a sent request is handed out once: for every state.
+-- What `request_telemetry` refuses and sets, what `cancel_telemetry_request` clears, and that a sent request is handed out once. For every state.
 -- Assumes nothing.
 use mathlib.Core.Path.{_≡_, _∙_, refl, sym, ap}
 use Prim.Native.Nat.{ℕ, _<_}

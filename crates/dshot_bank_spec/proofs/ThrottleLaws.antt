@@ -1,4 +1,4 @@
--- What `command_throttles` refuses and sets, and what `command_stop` leaves: for every state and all throttles.
+-- What `command_throttles` refuses and sets, and what `command_stop` leaves. For every state and all throttles.
 -- Assumes nothing.
 use mathlib.Core.Path.{_≡_, _∙_, refl, sym, ap}
 use Prim.Native.Nat.{ℕ, _<_, _≤_}

@@ -1,4 +1,4 @@
--- No call takes a fault back: for every count of lanes and every state.
+-- No call takes a fault back. For every number of lanes and every state.
 -- Assumes nothing.
 use mathlib.Core.Path.{_≡_, _∙_, refl, ap}
 use Prim.Native.Nat.{ℕ}

@@ -1,4 +1,4 @@
--- No call takes a bank out of bidirectional mode, nor into it but `enable_bidirectional`: for every count of lanes and every state.
+-- No call takes a bank out of bidirectional mode. Only `enable_bidirectional` takes one into it. For every number of lanes and every state.
 -- Assumes nothing.
 use mathlib.Core.Path.{_≡_, _∙_, refl, ap}
 use Prim.Native.Nat.{ℕ}

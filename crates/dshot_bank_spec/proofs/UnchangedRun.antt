@@ -1,4 +1,4 @@
--- The calls that leave a run of commands as it was: all but those that queue one, send a frame, or may latch a fault. For every state.
+-- The calls that leave a run of commands as it was: all except those that queue one, send a frame, or may latch a fault. For every state.
 -- Assumes nothing.
 use mathlib.Core.Path.{_≡_, refl}
 use Prim.Native.Nat.{ℕ}

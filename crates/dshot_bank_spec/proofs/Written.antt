@@ -1,4 +1,4 @@
--- What encoding every lane leaves in the two lent buffers: each lane's slots in its part of its spare, for every count of lanes.
+-- What encoding every lane leaves in the two lent buffers: each lane's slots in its part of its spare. For every number of lanes.
 -- Assumes nothing.
 use mathlib.Core.Path.{_≡_, _∙_, refl, sym, ap}
 use Prim.Native.Nat.{ℕ, zero, suc, _+_, _*_, _<_, _≤_}
