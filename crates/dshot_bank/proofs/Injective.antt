@@ -1,4 +1,4 @@
--- The definitions that say what the code's state and answers stand for are injective, so the equation of a promise determines bank and answer.
+-- The definitions that say what the code's state and answers stand for are injective. So the equation of a promise determines bank and answer.
 -- Assumes nothing.
 use mathlib.Core.Path.{_≡_, _∙_, refl, sym, ap}
 use mathlib.Core.Bool.{Bool, true, false}

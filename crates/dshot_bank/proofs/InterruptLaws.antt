@@ -1,4 +1,4 @@
--- What an interrupt answers, put together: its lane among the four, and orders that have no first duties.
+-- What an interrupt answers as a whole: its lane is one of the four, and its orders have no first duties.
 -- Assumes nothing.
 use mathlib.Core.Path.{_≡_, _∙_, refl, sym, ap, subst}
 use Prim.Native.Nat.{ℕ}

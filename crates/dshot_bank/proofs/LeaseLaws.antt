@@ -1,4 +1,4 @@
--- What the number of a lease stands for, where there is one.
+-- If there is a lease: what its number stands for.
 -- Assumes nothing.
 use mathlib.Core.Path.{_≡_, sym, ap}
 use mathlib.Core.Option.{some}

@@ -1,4 +1,4 @@
--- The orders of a call as one number holds them: lists that are put together, and lists that come back from the number as they went in.
+-- The orders of a call in one number. Lists of orders are put together, and come back from the number as they went in.
 -- Assumes nothing.
 use mathlib.Core.Path.{_≡_, _∙_, refl, sym, ap, subst}
 use Prim.Native.Nat.{ℕ, zero, suc, _+_, _*_, _/_, _%_, _<_, _≤_}

@@ -1,5 +1,5 @@
--- Laws of an array of the code and what its entries stand for: one entry stored, one read, all read in turn; of a lane's part of a buffer; and of
--- what is answered where the sequence that a lane is sending is asked for.
+-- Laws of an array of the code and of what its entries stand for: one entry stored, one read, all read in turn. Laws of a lane's part of a buffer.
+-- What the view of a lane answers.
 -- Assumes nothing.
 use mathlib.Core.Path.{_≡_, _∙_, refl, sym, ap}
 use Prim.Native.Nat.{ℕ, zero, suc, _+_, _-_, _*_, _<_}

@@ -1,5 +1,5 @@
--- What the code that sends a frame set rests on: a sequence that is written into a part of the right length, and a part that comes back between
--- what stands before it and after it.
+-- What the code that sends a frame set rests on. A sequence is written into a part of the right length. The part comes back between what stands
+-- before it and after it.
 -- Assumes nothing.
 use mathlib.Core.Path.{_≡_, _∙_, refl, ap}
 use mathlib.Core.Bool.{Bool, true, false, not}

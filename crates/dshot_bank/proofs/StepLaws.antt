@@ -1,4 +1,5 @@
--- One call of the code is one step of the definitions: a core that is changed, a refusal, and a motor's lane that is found or is not.
+-- One call of the code is one step of the definitions. The laws are for a core that is changed, for a refusal, and for a lane with or without a
+-- motor.
 -- Assumes nothing.
 use mathlib.Core.Path.{_≡_, _∙_, refl, sym, ap}
 use mathlib.Core.Bool.{Bool, true, false}

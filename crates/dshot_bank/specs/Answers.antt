@@ -1,4 +1,4 @@
--- The answers of the code in the terms of the definitions: for each case of an enum document 01's number, or that the call was done.
+-- What the code's answers mean in the terms of the definitions. Each case of an enum is document 01's number, or says that the call was done.
 -- Assumes nothing.
 use Prim.Native.Nat.{ℕ}
 use mathlib.Core.Bool.{Bool}
@@ -72,14 +72,14 @@ requestedAnswer (Request·.Refused e) = refused (requestErrorNumber e)
 
 -- ---- replies
 
--- what stands where there is none
+-- what stands in the place of a reply if there is none
 abbrev pub noLaneReply : LaneReply
 noLaneReply = record { reply = NoReply; valid = 0; invalid = 0; «consecutive_invalid» = 0 }
 
 abbrev pub noTakenReply : TakenReply
 noTakenReply = record { reply = ReplyRead·.Refused DshotReplyError·.NoReply }
 
--- what is handed out of each lane
+-- each lane's reply as it is handed out
 abbrev pub answersOf : List TakenReply → List (Reply.Answer Reading)
 answersOf l = map (λ (t : TakenReply). replyAnswer (t .reply)) l
 

@@ -1,5 +1,4 @@
--- What the interrupt of the code returns, in the terms of the definitions.
--- For `on_dma_interrupt`.
+-- What the code's `on_dma_interrupt` returns, in the terms of the definitions.
 -- Assumes nothing.
 use mathlib.Core.Path.{_≡_}
 use mathlib.Core.List.{List}
@@ -23,12 +22,12 @@ interruptEventOf Completed = completed
 interruptEventOf Faulted = faulted
 interruptEventOf Spurious = spurious
 
--- an answer with its orders, or document 01's number
+-- an event with its orders, or document 01's number of the refusal
 abbrev pub interruptAnswer : Interrupt → List Order → Answer
 interruptAnswer (Event e) orders = interrupted (interruptEventOf e) orders
 interruptAnswer NoSuchMotor orders = refused noSuchMotor
 
--- the same event, orders and core
+-- The code and the definition have the same event, orders and core.
 pub record Interrupts (r : Handled) (s : Spec.Interrupted) : Type 0 where
   pub event : interruptEventOf (r .event) ≡ s .event
   pub orders : r .orders ≡ held (s .orders)

@@ -1,5 +1,5 @@
--- The orders of the code in the terms of the definitions: one number, in which each order has seven bits, and the first duties beside it.
--- For the calls of the Rust's trait `DshotLanes`.
+-- What the code's orders mean in the terms of the definitions. They are one number, with seven bits for each order, and the first duties beside it.
+-- Stands for the calls of the Rust's trait `DshotLanes`.
 -- Assumes nothing.
 use Prim.Native.Nat.{ℕ, zero, suc, _+_, _-_, _*_, _/_, _%_}
 use mathlib.Core.Path.{_≡_}
@@ -29,7 +29,7 @@ kindNumber PauseAndClear = 6
 kindNumber BeginReceive = 7
 kindNumber EndReceive = 8
 
--- the numbers of some orders in one, the first in the lowest seven bits
+-- the numbers of some orders in one number, the first in the lowest seven bits
 abbrev pub codesOf : List Spec.Order → ℕ
 codesOf [] = 0
 codesOf (x ∷ l) = code x + 128 * codesOf l
@@ -43,11 +43,11 @@ above (suc n) c = 128 * above n c
 unfoldable pub held : List Spec.Order → Orders
 held l = record { count = length l; codes = codesOf l }
 
--- an interrupt's first order
+-- the orders of an interrupt begin with the pause of its lane
 abbrev pub Begins : Orders → DshotMotor → Type 0
 Begins o motor = o ≡ held (pause-and-clear (motorOf motor) ∷ [])
 
--- ---- the other way
+-- ---- from numbers back to orders
 
 -- the kind with a number
 abbrev pub kindAt : ℕ → OrderKind
@@ -62,11 +62,11 @@ kindAt n =
     if eqb n 8 then EndReceive else
     None
 
--- what the lowest seven bits say
+-- the order in the lowest seven bits
 abbrev pub entryIn : ℕ → Order
 entryIn codes = record { kind = kindAt (codes % 128 / 8); motor = codes % 128 % 8 }
 
--- the first order, and those after it
+-- the first order; `restOrders` are those after it
 abbrev pub firstOrder : Orders → Order
 firstOrder o = if eqb (o .count) 0 then record { kind = None; motor = 0 } else entryIn (o .codes)
 
@@ -85,12 +85,12 @@ orderOf d PauseAndClear m = pause-and-clear m ∷ []
 orderOf d BeginReceive m = begin-receive ∷ []
 orderOf d EndReceive m = end-receive ∷ []
 
--- so many orders of a number
+-- the first n orders of a number
 abbrev pub ordersFrom : List ℕ → ℕ → ℕ → List Spec.Order
 ordersFrom d zero codes = []
 ordersFrom d (suc n) codes = orderOf d (entryIn codes .kind) (entryIn codes .motor) ++ ordersFrom d n (codes / 128)
 
--- the orders of an answer of the code, and of the first duties beside it
+-- the list of orders that a number and the first duties beside it stand for
 unfoldable pub ordersOf : Orders → List ℕ → List Spec.Order
 ordersOf o d = ordersFrom d (o .count) (o .codes)
 
@@ -108,11 +108,11 @@ ordersIn (values v) = []
 ordersIn (reply-counts r) = []
 ordersIn (slots l) = []
 
--- nothing stands in the number and beside it but the orders of an answer
+-- The number and the duties hold the orders of an answer, and nothing else.
 pub record Just (o : Orders) (d : List ℕ) (a : Answer) : Type 0 where
   pub number : o ≡ held (ordersIn a)
   pub duties : d ≡ dutiesIn (ordersIn a)
 
--- a list of orders that the number and the first duties can hold
+-- The number and the first duties can hold this list of orders.
 abbrev pub Whole : List Spec.Order → Type 0
 Whole l = ordersOf (held l) (dutiesIn l) ≡ l

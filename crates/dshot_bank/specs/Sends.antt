@@ -27,7 +27,7 @@ nextFrameOf n = record { command = motorCommandOf (n .command); left = commandSe
 abbrev pub frameSetOf : FrameSet → Sets.FrameSet
 frameSetOf f = record { values = f .values; telemetryLane = laneOf (f .«telemetry_lane»); telemetryRequest = choiceOf (f .«telemetry_request») }
 
--- the same start, orders with their first duties, and core
+-- The code and the definition have the same start, orders, first duties and core.
 pub record Sends (r : Sent) (s : Send.Sent) : Type 0 where
   pub started : r .started ≡ s .started
   pub orders : r .orders ≡ held (s .orders)

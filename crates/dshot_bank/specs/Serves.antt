@@ -1,5 +1,4 @@
--- What the service of the code returns, in the terms of the definitions.
--- For `service`.
+-- What the code's `service` returns, in the terms of the definitions.
 -- Assumes nothing.
 use mathlib.Core.Path.{_≡_}
 use mathlib.Core.Bool.{Bool}
@@ -26,12 +25,12 @@ serviceEventOf Busy = busy
 serviceEventOf LeaseExpired = lease-expired
 serviceEventOf Faulted = faulted
 
--- an answer with its orders and the marks before the call, or document 01's number
+-- an event with its orders and the marks before the call, or document 01's number of the refusal
 abbrev pub serviceAnswer : Service → List Order → List Bool → Answer
 serviceAnswer (Event e) orders inSecond = serviced (serviceEventOf e) orders inSecond
 serviceAnswer WrongLength orders inSecond = refused wrongLength
 
--- the same event, orders and core
+-- The code and the definition have the same event, orders and core.
 pub record Skips (r : Skipped) (s : Spec.Skipped) : Type 0 where
   pub event : serviceEventOf (r .event) ≡ s .event
   pub orders : r .orders ≡ held (s .orders)
@@ -39,7 +38,7 @@ pub record Skips (r : Skipped) (s : Spec.Skipped) : Type 0 where
   pub whole : Whole (s .orders)
   pub core : coreOf (r .core) ≡ s .core
 
--- the same event, orders with their first duties, bank and buffers
+-- The code and the definition have the same event, orders, first duties, bank and buffers.
 pub record Serves (r : Served) (b : Buffers) (s : Spec.Served) : Type 0 where
   pub answer : (inSecond : List Bool) → serviceAnswer (r .answer) (s .orders) inSecond ≡ serviced (s .event) (s .orders) inSecond
   pub orders : r .orders ≡ held (s .orders)

@@ -1,5 +1,4 @@
--- The state of the code in the terms of the definitions.
--- For `DshotBank` of the Rust's dshot_bank.rs.
+-- What the code's state means in the terms of the definitions. Stands for `DshotBank` of the Rust's dshot_bank.rs.
 -- Assumes nothing.
 use Prim.Native.Nat.{ℕ}
 use mathlib.Core.List.{List, [], _∷_, map}
@@ -41,7 +40,7 @@ abbrev pub choiceOf : MotorChoice → Option ℕ
 choiceOf MotorChoice·.None = none
 choiceOf (MotorChoice·.Some m) = some (motorOf m)
 
--- the motor of a lane, of which there are four
+-- the motor of a lane; there are four
 abbrev pub motorAt : ℕ → Option ℕ
 motorAt lane = if ltb lane 4 then some lane else none
 
@@ -91,7 +90,7 @@ coreOf c = record {
   stats = statsOf (c .stats);
 }
 
--- the reading of a lane's window, or document 01's number of each refusal
+-- the reading of a lane's window, or document 01's number of its refusal
 abbrev pub storedAnswer : StoredReply → Reply.Answer Reading
 storedAnswer (Erpm n) = given (erpm n)
 storedAnswer (Temperature n) = given (temp n)

@@ -1,5 +1,4 @@
--- What the view of the code returns, in the terms of the definitions.
--- Added, for document 01's view.
+-- What the code's view returns, in the terms of the definitions. Added, for document 01's view.
 -- Assumes nothing.
 use Prim.Native.Nat.{ℕ}
 use mathlib.Core.List.{List, []}
@@ -8,13 +7,13 @@ use Rattle.dshot_bank_spec.specs.Calls.{Answer, done, refused, motor-sent, serv
 use Rattle.dshot_bank.specs.declared.looks.View.{View}
 use Rattle.dshot_bank.specs.declared.looks.View.the-variants.{Shown, WrongLength, NoSuchMotor}
 
--- a part that is shown, or document 01's number
+-- the part that is shown, or document 01's number of the refusal
 abbrev pub viewAnswer : View → List ℕ → Answer
 viewAnswer Shown part = slots part
 viewAnswer WrongLength part = refused wrongLength
 viewAnswer NoSuchMotor part = refused noSuchMotor
 
--- the part that an answer shows; nothing, where it shows none
+-- the part that an answer shows; the empty list if it shows none
 abbrev pub shown : Answer → List ℕ
 shown done = []
 shown (refused number) = []

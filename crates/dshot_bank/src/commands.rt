@@ -66,7 +66,7 @@ pub enum Throttle {
     Refused(DshotCommandError),
 }
 
-// What `command_special` answers. There is no motor on a lane above 3.
+// What `command_special` answers. If the lane is above 3, there is no such motor.
 pub enum Special {
     Ok,
     NoSuchMotor,
@@ -227,7 +227,7 @@ impl MotorRun {
 }
 
 impl Requests {
-    // With another telemetry request.
+    // The bank with another telemetry request.
     fn requesting(self, motor: MotorChoice) -> Self
         ensures { λ r. ⌜ r ≡ record { «telemetry_request» = motor; «telemetry_request_sent» = self .«telemetry_request_sent»; «command_sequence» = self .«command_sequence» } ⌝ }
     {
@@ -240,7 +240,7 @@ impl Requests {
         }
     }
 
-    // With another run.
+    // The bank with another run.
     pub(crate) fn running(self, run: MotorRun) -> Self
         ensures { λ r. ⌜ r ≡ record { «telemetry_request» = self .«telemetry_request»; «telemetry_request_sent» = self .«telemetry_request_sent»; «command_sequence» = run } ⌝ }
     {
@@ -253,7 +253,7 @@ impl Requests {
         }
     }
 
-    // With nothing sent.
+    // The bank with no request sent.
     fn unsent(self) -> Self
         ensures { λ r. ⌜ r ≡ record { «telemetry_request» = self .«telemetry_request»; «telemetry_request_sent» = MotorChoice·.None; «command_sequence» = self .«command_sequence» } ⌝ }
     {
@@ -286,7 +286,8 @@ impl Core {
 }
 
 impl DshotBank {
-    // Switches to bidirectional DShot: meant for before the first frame, and not refused later. Refused if a lane cannot receive replies.
+    // Switches to bidirectional DShot. It is meant for the time before the first frame, but a later call is not refused. Refused if a lane cannot
+    // receive replies.
     pub fn enable_bidirectional(mut self, receives_replies: bool) -> Enabled
         ensures { λ r. ⌜ ((b : Buffers) → stepped (enabledAnswer (r .answer)) (r .bank) b ≡ step 4 (stateOf self b) (Call.enable-bidirectional «receives_replies»)) ⌝ }
     {
@@ -378,7 +379,8 @@ impl DshotBank {
         }
     }
 
-    // Requests legacy UART telemetry from exactly one motor in the next ordinary frame that starts; one that sends a special command leaves it.
+    // Requests legacy UART telemetry from exactly one motor in the next frame that starts without a special command. A frame with a special command
+    // leaves the request.
     pub fn request_telemetry(self, motor: usize) -> Requested
         ensures { λ r. ⌜ ((b : Buffers) → stepped (requestedAnswer (r .answer)) (r .bank) b ≡ step 4 (stateOf self b) (Call.request-telemetry motor)) ⌝ }
     {

@@ -1,5 +1,5 @@
-// Ported from crates/ferrowasp-stm32-critical/src/dshot_bank.rs of Eirik2020/ferro-wasp at commit 9cb8aca1a6, Copyright (c) 2026 Kaldstrand,
-// under the Apache License, Version 2.0 (see NOTICE). Changed: ported to Rattle, with a promise for the call, which refuses a lane above 3.
+// Ported from crates/ferrowasp-stm32-critical/src/dshot_bank.rs of Eirik2020/ferro-wasp at commit 9cb8aca1a6, Copyright (c) 2026 Kaldstrand, under
+// the Apache License, Version 2.0 (see NOTICE). Changed: ported to Rattle, with a promise for the call. The call refuses a lane above 3.
 //
 // The DMA interrupts of a bank.
 
@@ -38,7 +38,7 @@ pub enum DshotInterruptEvent {
     Spurious,
 }
 
-// What `on_dma_interrupt` answers. There is no motor on a lane above 3.
+// What `on_dma_interrupt` answers. If the lane is above 3, there is no such motor.
 pub enum Interrupt {
     Event(DshotInterruptEvent),
     NoSuchMotor,
@@ -70,7 +70,7 @@ impl DshotStats {
         ensures { λ r. ⌜ statsOf r ≡ countCompletion (motorOf motor) (statsOf self) ⌝ }
     {
         let mut counts = self.lane_completions;
-        // Lane by lane: a known place stays in a register.
+        // Each lane has a line of its own, because a known place stays in a register.
         match motor {
             DshotMotor::Motor1 => counts[0] = wrapping_add(counts[0]),
             DshotMotor::Motor2 => counts[1] = wrapping_add(counts[1]),
@@ -154,7 +154,8 @@ impl Core {
         }
     }
 
-    // A lane has completed. After the last lane of a frame set, the receive window opens or the set is done; after the last window, it is done.
+    // A lane has completed. After the last lane of a transmission, the receive window opens or the set is done. After the last window, the set is
+    // done.
     fn after_lane(self, paused: Orders, turned: bool, turned_back: bool) -> Handled
         requires { ⌜ (paused .count ≡ 1) × (paused .codes < 128) ⌝ }
         ensures { λ r. ⌜ ((motor : DshotMotor) → Begins paused motor → Interrupts r (afterLane 4 (motorOf motor) true false turned «turned_back» (coreOf self))) ⌝ }
@@ -215,7 +216,8 @@ impl Core {
 }
 
 impl DshotBank {
-    // `turned`: whether every lane turned to receive, and `turned_back` whether every lane turned back, where it is asked for.
+    // `turned` says whether every lane turned to receive, and `turned_back` whether every lane turned back. Each counts only if the Rust would ask
+    // for it.
     pub fn on_dma_interrupt(
         mut self,
         motor: usize,

@@ -1,7 +1,7 @@
-// Ported from crates/ferrowasp-stm32-critical/src/dshot_bank.rs of Eirik2020/ferro-wasp at commit 9cb8aca1a6, Copyright (c) 2026 Kaldstrand,
-// under the Apache License, Version 2.0 (see NOTICE). Changed: ported to Rattle, with a promise for each call; the hardware's answers come with
-// the calls and the orders to it leave in their results; two lent buffers and a mark per lane stand for the exchanged buffers, and a view of them
-// is added; lanes are numbers at the calls, refused above 3.
+// Ported from crates/ferrowasp-stm32-critical/src/dshot_bank.rs of Eirik2020/ferro-wasp at commit 9cb8aca1a6, Copyright (c) 2026 Kaldstrand, under
+// the Apache License, Version 2.0 (see NOTICE). Changed: ported to Rattle, with a promise for each call. The hardware's answers come with the calls,
+// and the orders to the hardware leave in their results. Two lent buffers and a mark per lane stand for the exchanged buffers. A view of them is
+// added. The calls take lanes as numbers, and refuse those above 3.
 //
 // The four-motor DShot bank's safety state machine, independent of the timers and DMA streams that put it on the wire.
 //
@@ -139,13 +139,13 @@ pub struct DshotStats {
 pub struct Demand {
     pub requested_values: MotorValues,
     pub lease_started_ms: u64,
-    // The lease is over so many milliseconds after it started: one more than its duration. 0 without a lease. One number, and not an enum, so that
+    // The lease is over this many milliseconds after its start: its duration + 1. It is 0 without a lease. It is one number and not an enum, so that
     // it stays in a register.
     pub lease_over_after_ms: u64,
 }
 
-// Special-command frames still to send, for one motor: the fields of its `DshotCommandSequence`, since an enum holds no array. Sent only while
-// every throttle is zero; a throttle demand that is in force when a frame starts cancels it.
+// Special-command frames still to send, for one motor. These are the fields of its `DshotCommandSequence`, since an enum holds no array. They are
+// sent only while every throttle is zero. If a throttle demand is in force when a frame starts, it cancels them.
 pub enum MotorRun {
     None,
     Some {
@@ -163,9 +163,9 @@ pub struct Requests {
     pub command_sequence: MotorRun,
 }
 
-// In this order the fields leave no gap between them: a gap would be copied apart, and keep the struct out of registers.
+// In this order the fields leave no gap between them. A gap would be copied separately, and keep the struct out of registers.
 pub struct Frame {
-    // For each lane, whether the second buffer holds the sequence that it is sending, and the first its spare.
+    // For each lane: if it is set, the lane sends from the second buffer, and the first is its spare.
     pub in_second: [bool; LANES],
     pub completion_mask: u32,
     pub frame_started_ms: u64,
@@ -181,7 +181,7 @@ pub struct Frame {
     pub replies_held: bool,
 }
 
-// All of the bank but the replies and their counts.
+// All of the bank except the replies and their counts.
 pub struct Core {
     pub timing: DshotTiming,
     pub demand: Demand,
@@ -190,8 +190,8 @@ pub struct Core {
     pub stats: DshotStats,
 }
 
-// What a lane's window read as: the reading, or why there is none. `ReplyRead` in one level of cases, which takes eight bytes: a bank is passed by
-// value, and so a reply stays in a register.
+// What a lane's window read as: the reading, or why there is none. It is `ReplyRead` in one level of cases, which takes eight bytes. A bank is passed
+// by value, so a reply then stays in a register.
 pub enum StoredReply {
     Erpm(u32),
     Temperature(u8),
@@ -208,7 +208,7 @@ pub enum StoredReply {
     ZeroPeriod,
 }
 
-// A lane's reply as it was decoded last, and its accounting.
+// A lane's last reply, and its accounting.
 pub struct LaneReply {
     pub reply: StoredReply,
     pub valid: u32,
@@ -223,7 +223,7 @@ pub struct DshotBank {
 }
 
 impl DshotBank {
-    // A bank whose lanes hold their first buffers, with one spare per lane: the first lent buffer is current, the second spare.
+    // A bank whose lanes hold their first buffers, with one spare per lane. The first lent buffer is current, and the second is spare.
     pub fn from_lanes(timing: DshotTiming) -> Self
         ensures { λ r. ⌜ bankOf r ≡ fromLanes 4 (timingOf timing) ⌝ }
     {

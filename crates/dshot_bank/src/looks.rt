@@ -79,7 +79,7 @@ impl DshotBank {
         View::NoSuchMotor
     }
 
-    // The 16 slots of the sequence that a lane is sending, a part of the buffer that its mark names. Nothing, where `sending_answer` refuses.
+    // The 16 slots of the sequence that a lane is sending: a part of the buffer that its mark names. If `sending_answer` refuses, it is empty.
     pub fn sending<'a>(self, first: &'a [u16], second: &'a [u16], motor: usize) -> &'a [u16]
         ensures { λ r. ⌜ now r ≡ shown (step 4 (stateOf self (record { first = now (first .entry); second = now (second .entry) })) (Call.sending motor) .answer) ⌝ }
     {

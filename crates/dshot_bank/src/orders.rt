@@ -1,8 +1,7 @@
-// Ported from crates/ferrowasp-stm32-critical/src/dshot_bank.rs of Eirik2020/ferro-wasp at commit 9cb8aca1a6, Copyright (c) 2026 Kaldstrand,
-// under the Apache License, Version 2.0 (see NOTICE). Changed: ported to Rattle; the calls of `DshotLanes` that change the hardware became
-// orders.
+// Ported from crates/ferrowasp-stm32-critical/src/dshot_bank.rs of Eirik2020/ferro-wasp at commit 9cb8aca1a6, Copyright (c) 2026 Kaldstrand, under
+// the Apache License, Version 2.0 (see NOTICE). Changed: ported to Rattle. The calls of `DshotLanes` that change the hardware became orders.
 //
-// The orders to the hardware that a call returns, in the order in which they are to be done.
+// The orders to the hardware that a call returns, in the order in which the host does them.
 
 use crate::DshotMotor;
 use crate::LANES;
@@ -36,24 +35,24 @@ pub enum OrderKind {
     EndReceive,
 }
 
-// One order, and its lane; 0 where it is for all.
+// One order and its lane. If the order is for all lanes, the lane is 0.
 pub struct Order {
     pub kind: OrderKind,
     pub motor: u8,
 }
 
-// The most orders that a call gives: an exchange for each lane, then one for each lane and one more (every stream started and the frame, or the
-// outputs low and every stream paused).
+// The most orders that a call gives. First comes an exchange for each lane. Then come five more: a start for each lane and the frame's, or the
+// outputs low and a pause for each lane.
 pub const MOST_ORDERS: usize = 2 * LANES + 1;
 
-// `count` orders in one number, the first in its lowest seven bits: eight times the number of the order's kind, and its motor. A call returns
-// them in a register; an array would go through memory at every call.
+// `count` orders in one number, the first in its lowest seven bits. An order is 8 x its kind + its motor. A call returns them in a register. An array
+// would go through memory at every call.
 pub struct Orders {
     pub count: usize,
     pub codes: u64,
 }
 
-// The numbers of orders: eight times their kind's, to which a lane is added.
+// The numbers of orders: 8 x the kind, to which a lane is added.
 const EXCHANGE: u64 = 8 * 1;
 
 const START: u64 = 8 * 2;
@@ -64,7 +63,7 @@ const FORCE_LOW: u64 = 8 * 5;
 
 const PAUSE: u64 = 8 * 6;
 
-// A number moved up by one order, by two, and so on.
+// The factors that move a number up by one order, by two, and so on.
 const UP: u64 = 128;
 
 const UP_2: u64 = UP * UP;
@@ -73,7 +72,7 @@ const UP_3: u64 = UP * UP_2;
 
 const UP_4: u64 = UP * UP_3;
 
-// An exchange for the first lane, for the first two, and so on.
+// The exchanges of the first lane, of the first two lanes, and so on.
 const EXCHANGES_1: u64 = EXCHANGE;
 
 const EXCHANGES_2: u64 = EXCHANGE + UP * (EXCHANGE + 1);
@@ -82,17 +81,17 @@ const EXCHANGES_3: u64 = EXCHANGE + UP * (EXCHANGE + 1 + UP * (EXCHANGE + 2));
 
 const EXCHANGES_4: u64 = EXCHANGES_3 + UP_3 * (EXCHANGE + 3);
 
-// Those, then a start for each lane, then the frame's.
+// The four exchanges, then a start for each lane, then the start of the frame.
 const STARTS: u64 = START + UP * (START + 1 + UP * (START + 2 + UP * (START + 3)));
 
 const STARTED: u64 = EXCHANGES_4 + UP_4 * (STARTS + UP_4 * START_FRAME);
 
-// The outputs low, and a pause for each lane.
+// The outputs low, then a pause for each lane.
 const PAUSES: u64 = PAUSE + UP * (PAUSE + 1 + UP * (PAUSE + 2 + UP * (PAUSE + 3)));
 
 const LATCHED: u64 = FORCE_LOW + UP * PAUSES;
 
-// Those of a latched fault, moved up by some orders.
+// The orders of a latched fault, moved up by some orders.
 fn latched_above(orders: usize) -> u64
     requires { ⌜ orders ≤ 4 ⌝ }
     ensures { λ r. ⌜ (r ≡ above orders (codesOf (latchOrders 4))) × (r < 4611686018427387904) ⌝ }
@@ -123,7 +122,7 @@ impl OrderKind {
         }
     }
 
-    // The kind with a number; `None` for any other number.
+    // The kind of a number. Any other number gives `None`.
     pub fn of(number: u64) -> Self
         ensures { λ r. ⌜ r ≡ kindAt number ⌝ }
     {
@@ -142,7 +141,7 @@ impl OrderKind {
 }
 
 impl Orders {
-    // The first order; `None` where there is none.
+    // The first order. If there is none, its kind is `None`.
     pub fn first(self) -> Order
         ensures { λ r. ⌜ r ≡ firstOrder self ⌝ }
     {
@@ -178,7 +177,7 @@ impl Orders {
         Orders { count: 0, codes: 0 }
     }
 
-    // The order with which every interrupt begins.
+    // The order with which every interrupt begins: the pause of its lane.
     pub(crate) fn paused(motor: DshotMotor) -> Self
         ensures { λ r. ⌜ (r .count ≡ 1) × (r .codes < 128) × Begins r motor ⌝ }
     {
@@ -188,7 +187,7 @@ impl Orders {
         }
     }
 
-    // An order for all behind the first.
+    // One order, and behind it an order for all lanes.
     pub(crate) fn then(self, kind: OrderKind) -> Self
         requires { ⌜ (self .count ≡ 1) × (self .codes < 128) ⌝ }
         ensures { λ r. ⌜ (r .count ≡ 2) × (r .codes < 2097152) × ((x y : Spec.Order) → code y ≡ 8 * kindNumber kind → self ≡ held (x ∷ []) → r ≡ held (x ∷ y ∷ [])) ⌝ }
@@ -199,7 +198,7 @@ impl Orders {
         }
     }
 
-    // Those of a latched fault behind at most four others.
+    // At most four orders, and behind them those of a latched fault.
     pub(crate) fn latched(self) -> Self
         requires { ⌜ (self .count ≤ 4) × (self .codes < 268435456) ⌝ }
         ensures { λ r. ⌜ ((l : List Spec.Order) → self ≡ held l → r ≡ held (l ++ latchOrders 4)) ⌝ }
@@ -210,7 +209,7 @@ impl Orders {
         }
     }
 
-    // An exchange for each of the lanes up to one.
+    // An exchange for each lane up to this one.
     fn exchanged(lane: usize) -> Self
         requires { ⌜ lane < 4 ⌝ }
         ensures { λ r. ⌜ (r .count ≤ 4) × (r .codes < 268435456) × (r ≡ held (tabulate (lane + 1) exchange-buffer)) ⌝ }
@@ -235,7 +234,7 @@ impl Orders {
         }
     }
 
-    // Those of a frame set that starts. All DMA streams are enabled before any timer DMA request is opened.
+    // The orders of a frame set that starts. All DMA streams are enabled before any timer DMA request is opened.
     pub(crate) fn started() -> Self
         ensures { λ r. ⌜ ((duties : List ℕ) → r ≡ held (startOrders 4 duties)) ⌝ }
     {
@@ -245,7 +244,7 @@ impl Orders {
         }
     }
 
-    // Those of a frame set whose exchange is refused at a lane.
+    // The orders of a frame set if this lane refuses its buffer.
     pub(crate) fn refused(lane: usize) -> Self
         requires { ⌜ lane < 4 ⌝ }
         ensures { λ r. ⌜ r ≡ held (refusedOrders 4 lane) ⌝ }

@@ -1,8 +1,7 @@
-// Ported from crates/ferrowasp-stm32-critical/src/dshot_bank.rs of Eirik2020/ferro-wasp at commit 9cb8aca1a6, Copyright (c) 2026 Kaldstrand,
-// under the Apache License, Version 2.0 (see NOTICE). Changed: ported to Rattle, with a promise for each call; the lanes' windows lie in one
-// lent buffer.
+// Ported from crates/ferrowasp-stm32-critical/src/dshot_bank.rs of Eirik2020/ferro-wasp at commit 9cb8aca1a6, Copyright (c) 2026 Kaldstrand, under
+// the Apache License, Version 2.0 (see NOTICE). Changed: ported to Rattle, with a promise for each call. The lanes' windows lie in one lent buffer.
 //
-// The replies of the last receive window, and the counts that are kept of them.
+// The replies of the last receive window, and their counts.
 
 use crate::DshotBank;
 use crate::LANES;
@@ -39,7 +38,7 @@ pub struct TakenReply {
 
 pub type DshotReplies = [TakenReply; 4];
 
-// The replies decoded since the last call, if any were; all `NoReply` where none were.
+// The replies decoded since the last call. If there were none, all are `NoReply`.
 pub struct RepliesTaken {
     pub held: bool,
     pub replies: DshotReplies,
@@ -90,7 +89,7 @@ impl StoredReply {
         }
     }
 
-    // As the reader of replies gives it.
+    // The reply as the reader gives it.
     pub fn read(self) -> ReplyRead
         ensures { λ r. ⌜ replyAnswer r ≡ storedAnswer self ⌝ }
     {
@@ -161,8 +160,7 @@ impl LaneReply {
     }
 }
 
-// A lane's reply, from its window. Extended telemetry is not enabled yet, so every value but its
-// acknowledgement is read as eRPM.
+// A lane's reply, from its window. Extended telemetry is not enabled yet, so every value except its acknowledgement is read as eRPM.
 fn read_window(present: bool, samples: &[u16], mask: u16) -> ReplyRead
     ensures { λ r. ⌜ replyAnswer r ≡ readWindow present (now (samples .entry)) mask ⌝ }
 {
@@ -172,8 +170,8 @@ fn read_window(present: bool, samples: &[u16], mask: u16) -> ReplyRead
     ReplyRead::Refused(DshotReplyError::NoReply)
 }
 
-// Decodes the last receive window. All are read before any is counted: an array that is stored into at a computed place goes to memory, and so
-// the counts, which change at known places, stay in registers.
+// Decodes the last receive window. All lanes are read before any is counted. An array that is stored into at a computed place goes to memory. The
+// counts change at known places, and so stay in registers.
 fn decode_replies(
     old: [LaneReply; LANES],
     present: LaneFlags,

@@ -1,6 +1,6 @@
-// Ported from crates/ferrowasp-stm32-critical/src/dshot_bank.rs of Eirik2020/ferro-wasp at commit 9cb8aca1a6, Copyright (c) 2026 Kaldstrand,
-// under the Apache License, Version 2.0 (see NOTICE). Changed: ported to Rattle; two lent buffers and a mark per lane stand for the exchanged
-// buffers, so that no spare can be missing.
+// Ported from crates/ferrowasp-stm32-critical/src/dshot_bank.rs of Eirik2020/ferro-wasp at commit 9cb8aca1a6, Copyright (c) 2026 Kaldstrand, under
+// the Apache License, Version 2.0 (see NOTICE). Changed: ported to Rattle. Two lent buffers and a mark per lane stand for the exchanged buffers, so
+// no spare can be missing.
 //
 // Latching a fault, and sending a frame set.
 
@@ -60,14 +60,14 @@ pub(crate) struct NextFrame {
     pub left: MotorRun,
 }
 
-// What is sent to each lane, and the telemetry request that is carried.
+// What is sent to each lane, and the telemetry request that the set carries.
 pub(crate) struct FrameSet {
     pub values: MotorValues,
     pub telemetry_lane: TelemetryLane,
     pub telemetry_request: MotorChoice,
 }
 
-// The first duties of the sequences that were written, and 0; or the number of a refusal, and zeros.
+// The first duties of the sequences that were written, and 0. If the call is refused, zeros and the number of the refusal.
 pub struct Spares {
     pub refusal: u32,
     pub first_duties: MotorValues,
@@ -107,7 +107,7 @@ impl DshotStats {
 }
 
 impl Core {
-    // The orders of a fault are `Orders::latched`.
+    // Latches a fault. Its orders are `Orders::latched`.
     pub(crate) fn latch_fault(mut self, spurious: bool) -> Self
         ensures { λ r. ⌜ coreOf r ≡ latchFault 4 spurious (coreOf self) ⌝ }
     {
@@ -160,7 +160,7 @@ fn next_of_run(run: MotorRun) -> NextFrame
     }
 }
 
-// A command, and the run after it; a spent run is cleared.
+// A command, and the run after it. A spent run is cleared.
 fn next_of(motor: DshotMotor, value: CommandValue, sequence: DshotCommandSequence) -> NextFrame
     ensures { λ r. ⌜ nextFrameOf r ≡ nextOf (motorOf motor) (commandOf value) (runOf sequence) ⌝ }
 {
@@ -184,7 +184,7 @@ fn one_lane(motor: DshotMotor, command: u16) -> MotorValues
     ensures { λ r. ⌜ r ≡ set (replicate 4 0) (motorOf motor) command ⌝ }
 {
     let mut values = [0; LANES];
-    // Lane by lane: a known place stays in a register.
+    // Each lane has a line of its own, because a known place stays in a register.
     match motor {
         DshotMotor::Motor1 => values[0] = command,
         DshotMotor::Motor2 => values[1] = command,
@@ -204,7 +204,7 @@ fn as_lane(motor: MotorChoice) -> TelemetryLane
 }
 
 impl Core {
-    // The next special-command frame; none when there is none or a throttle demand has cancelled it.
+    // The next special-command frame. If there is none, or a throttle demand has cancelled it, the answer is none.
     fn next_command_frame(self) -> NextFrame
         ensures { λ r. ⌜ nextFrameOf r ≡ nextCommandFrame (coreOf self) ⌝ }
     {
@@ -220,7 +220,7 @@ impl Core {
         next_of_run(run)
     }
 
-    // A special command needs the telemetry bit on its own lane, so a pending telemetry request waits for the next ordinary frame.
+    // A special command needs the telemetry bit on its own lane, so a pending telemetry request waits for the next frame without one.
     fn frame_set(self, command: FrameCommand) -> FrameSet
         ensures { λ r. ⌜ frameSetOf r ≡ frameSet 4 (coreOf self) (motorCommandOf command) ⌝ }
     {
@@ -256,8 +256,7 @@ impl Core {
 
 // ---- sequences
 
-// Writes the sequence of a packet into a lane's part of a spare, and returns its first duty. The part has the right length, so that nothing is
-// refused.
+// Writes the sequence of a packet into a lane's part of a spare, and returns its first duty. The part has the right length, so nothing is refused.
 fn encode(packet: DshotPacket, timing: DshotTiming, part: &mut [u16]) -> u16
     requires { ⌜ length (now part) ≡ 16 ⌝ }
     ensures { λ r. ⌜ r ≡ sequenceOf (timingOf timing) (packet .0) .first ⌝ }
@@ -269,7 +268,7 @@ fn encode(packet: DshotPacket, timing: DshotTiming, part: &mut [u16]) -> u16
     }
 }
 
-// A lane's sequence into its spare: the first buffer, where the second holds what it is sending.
+// Writes a lane's sequence into its spare. If the lane sends from the second buffer, its spare is the first.
 fn write_spare(
     first: &mut [u16],
     second: &mut [u16],
@@ -291,7 +290,7 @@ fn write_spare(
     }
 }
 
-// Every lane's sequence into its spare; the first duties.
+// Writes every lane's sequence into its spare, and returns the first duties.
 fn encode_lanes(
     first: &mut [u16],
     second: &mut [u16],
@@ -311,7 +310,7 @@ fn encode_lanes(
     duties
 }
 
-// The same for any two buffers: one of another length is refused with 13, and nothing is written.
+// The same for any two buffers. If one has another length, the call refuses with 13 (wrong length) and writes nothing.
 pub fn encode_spares(
     first: &mut [u16],
     second: &mut [u16],
@@ -338,7 +337,7 @@ pub fn encode_spares(
 
 // ---- the exchange
 
-// How many lanes took their buffer before the first that did not.
+// How many lanes took their buffer before the first lane that did not.
 fn lanes_taken(taken: LaneFlags) -> usize
     ensures { λ r. ⌜ r ≡ position not taken ⌝ }
 {
@@ -356,7 +355,7 @@ fn turned_if(turned: bool, mark: bool) -> bool
     if turned { !mark } else { mark }
 }
 
-// The marks of the first lanes turned.
+// Turns the marks of the first lanes.
 fn turn_marks(turned: usize, in_second: LaneFlags) -> LaneFlags
     ensures { λ r. ⌜ r ≡ turnMarks 4 turned «in_second» ⌝ }
 {
@@ -368,7 +367,7 @@ fn turn_marks(turned: usize, in_second: LaneFlags) -> LaneFlags
 }
 
 impl Requests {
-    // A request that the frame carries is sent.
+    // If the frame carries a request, the request is sent and no longer pending.
     fn carrying(self, request: MotorChoice) -> Self
         ensures { λ r. ⌜ telemetryOf r ≡ carry (choiceOf request) (telemetryOf self) ⌝ }
         ensures { λ r. ⌜ r .«command_sequence» ≡ self .«command_sequence» ⌝ }
@@ -397,7 +396,7 @@ impl Core {
         self
     }
 
-    // A lane refuses its buffer: those before it have turned.
+    // A lane refuses its buffer. The lanes before it have turned.
     fn exchange_refused(self, lane: usize) -> Sent
         requires { ⌜ lane < 4 ⌝ }
         ensures { λ r. ⌜ Sends r (exchangeRefused 4 lane (coreOf self)) ⌝ }

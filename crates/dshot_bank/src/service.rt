@@ -1,6 +1,6 @@
-// Ported from crates/ferrowasp-stm32-critical/src/dshot_bank.rs of Eirik2020/ferro-wasp at commit 9cb8aca1a6, Copyright (c) 2026 Kaldstrand,
-// under the Apache License, Version 2.0 (see NOTICE). Changed: ported to Rattle, with a promise for the call, which refuses lent buffers of
-// another length.
+// Ported from crates/ferrowasp-stm32-critical/src/dshot_bank.rs of Eirik2020/ferro-wasp at commit 9cb8aca1a6, Copyright (c) 2026 Kaldstrand, under
+// the Apache License, Version 2.0 (see NOTICE). Changed: ported to Rattle, with a promise for the call. The call refuses lent buffers of another
+// length.
 //
 // The service of a bank: the lease, the frame in flight, the replies that wait, and the next frame set.
 
@@ -47,7 +47,7 @@ pub enum Service {
     WrongLength,
 }
 
-// The answer, with the orders, the first duties for `StartFrame` (zeros without it) and the bank after it.
+// The answer, the orders, the first duties for `StartFrame` (zeros without it), and the bank after the call.
 pub struct Served {
     pub answer: Service,
     pub orders: Orders,
@@ -202,7 +202,7 @@ pub fn lengths_fit(first: usize, second: usize, captures: usize) -> bool
 }
 
 impl DshotBank {
-    // Sends a frame set, where none is in flight.
+    // Sends a frame set. None is in flight.
     fn send(
         core: Core,
         replies: [LaneReply; LANES],
@@ -263,7 +263,7 @@ impl DshotBank {
         DshotBank::send(core, decoded, lease_expired, now_ms, taken, first, second)
     }
 
-    // `taken`: whether each lane took its buffer; `present`: whether each lane has a capture, of its own window of `captures` and its mask.
+    // `taken` says whether each lane took its buffer. `present` says whether each lane has a capture: its window of `captures`, read at its mask.
     pub fn service(
         self,
         now_ms: u64,
