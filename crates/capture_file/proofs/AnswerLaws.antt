@@ -1,4 +1,4 @@
--- Answers that are made in steps: a refusal of bytes has one number.
+-- Answers that are made in steps: bytes are refused with one number only.
 -- Assumes nothing.
 use mathlib.Core.Path.{_≡_, refl}
 use mathlib.Core.Bool.{Bool, true, false}

@@ -1,4 +1,4 @@
--- The digits of a number, the lowest taken off; and how many there are.
+-- The digits of a number without the lowest one, and how many digits there are.
 -- Assumes nothing.
 use mathlib.Core.Path.{_≡_, refl, ap, _∙_}
 use mathlib.Core.Logic.{⊎-elim}

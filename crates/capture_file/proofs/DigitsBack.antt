@@ -1,4 +1,4 @@
--- The digits of a line read back as the number that they were written for, and a decimal number above 0 does not start with a 0.
+-- The digits of a line read back as the number that they were written for. A decimal number above 0 does not start with a 0.
 -- Assumes nothing.
 use mathlib.Core.Path.{_≡_, refl, _∙_}
 use mathlib.Core.Logic.{⊎-elim}

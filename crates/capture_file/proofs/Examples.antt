@@ -1,4 +1,4 @@
--- Files of a few bytes, read by computing: what is well formed, and each way in which bytes are not.
+-- Files of a few bytes, read by computing: well formed ones, and each way in which bytes are not well formed.
 -- Assumes nothing.
 use mathlib.Core.Path.{_≡_, refl}
 use mathlib.Core.Bool.{true, false}

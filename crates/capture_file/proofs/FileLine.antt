@@ -1,5 +1,5 @@
--- The line of a file: of one that was written it is its capture's, of any other `refused 17`, and it fits 29 bytes; and document 01's example, from
--- the simulated ESC through the file to the line.
+-- The line of a file fits 29 bytes. If the file was written, it is the line of its capture. Any other file has `refused 17`. Document 01's example
+-- runs from the simulated ESC through the file to the line.
 -- Assumes nothing.
 use mathlib.Core.Logic.{⊎-elim}
 use mathlib.Core.Path.{_≡_, refl, sym, ap, _∙_, subst}

@@ -1,4 +1,4 @@
--- The definitions that give each enum document 01's numbers and values are injective, so the equation of a promise determines the answer.
+-- The definitions that give each enum document 01's numbers and values are injective. So the equation of a promise determines the answer.
 -- Assumes nothing.
 use mathlib.Core.Path.{_≡_, refl}
 use Prim.Native.Nat.{ℕ}

@@ -1,4 +1,4 @@
--- A line that grows byte by byte: what is written one after the other, that it is all there with zeros after it, and that every line fits.
+-- A line that grows byte by byte. All that is written is there, one after the other, with zeros after it. Every line fits.
 -- Assumes nothing.
 use mathlib.Core.Path.{_≡_, refl, sym, ap, _∙_}
 use mathlib.Core.Logic.{⊎-elim}

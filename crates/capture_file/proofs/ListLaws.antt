@@ -1,4 +1,4 @@
--- The line of a file, by what reading it into slots answers and what it leaves in them.
+-- The line of a file, from what reading it into slots answers and leaves in them.
 -- Assumes nothing.
 use mathlib.Core.Path.{_≡_, sym, ap, _∙_}
 use mathlib.Core.List.{List}

@@ -1,5 +1,5 @@
--- The bench's line tells what the carrier's reader answers, refusals included; the fields hold the whole word, value and number; and what the
--- simulated ESC writes prints the value's line, document 01's example among them.
+-- The bench's line says what the carrier's reader answers, refusals included. Its fields hold the whole word, value and number. What the simulated
+-- ESC writes prints the value's line. Document 01's example is among them.
 -- Assumes nothing.
 use mathlib.Core.Logic.{⊎-elim}
 use mathlib.Core.Path.{_≡_, refl, sym, ap, _∙_}

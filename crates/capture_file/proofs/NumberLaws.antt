@@ -1,4 +1,4 @@
--- A number's groups read back as that number, and a number is read from its own groups alone.
+-- A number's groups read back as that number. A number is read only from its own groups.
 -- Assumes nothing.
 use mathlib.Core.Path.{_≡_, refl, sym, ap, _∙_}
 use mathlib.Core.Logic.{⊎-elim}

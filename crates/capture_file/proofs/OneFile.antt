@@ -1,4 +1,4 @@
--- What reads as a capture is the file of that capture.
+-- If bytes read as a capture, they are the file of that capture.
 -- Assumes nothing.
 use mathlib.Core.Path.{_≡_, refl, sym, ap, _∙_, subst}
 use mathlib.Core.Bool.{Bool, true, false}

@@ -1,4 +1,4 @@
--- The file of a capture reads back as that capture, and fits the longest file's bytes.
+-- The file of a capture reads back as that capture, and is no longer than the longest file.
 -- Assumes nothing.
 use mathlib.Core.Path.{_≡_, refl, ap}
 use mathlib.Core.Bool.{Bool, true, false}

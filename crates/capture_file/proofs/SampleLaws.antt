@@ -1,4 +1,4 @@
--- The samples of a file, one at a time: found to be there, and filled into slots.
+-- The samples of a file, one at a time: they are found to be there, and then filled into slots.
 -- Assumes nothing.
 use mathlib.Core.Path.{_≡_, refl, sym, ap, _∙_}
 use mathlib.Core.Logic.{⊎-elim}

@@ -1,4 +1,4 @@
--- Capture files and captures are one to one: a file that was written reads back, and what reads as a capture is the one file of it.
+-- Capture files and captures are one to one. A file that was written reads back. If bytes read as a capture, they are its only file.
 -- Assumes nothing.
 use mathlib.Core.Path.{_≡_, sym, ap, _∙_}
 use mathlib.Core.List.{List, [], _∷_}

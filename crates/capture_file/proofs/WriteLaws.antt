@@ -1,4 +1,4 @@
--- Lists put over a buffer: stores one after the other, and one list after the other.
+-- Lists that replace parts of a buffer: one store after the other, and one list after the other.
 -- Assumes nothing.
 use mathlib.Core.Path.{_≡_, sym, ap, _∙_}
 use mathlib.Core.List.{List, [], _∷_, _++_, append-assoc, append-nil}

@@ -1,4 +1,4 @@
--- What the steps of reading and writing a capture file do, for the contracts of private functions. No public promise cites these.
+-- What the steps of reading and writing a capture file do. Only the contracts of private functions cite these; no public promise does.
 -- Assumes nothing.
 use Prim.Native.Nat.{ℕ, _+_}
 use mathlib.Core.List.{List, _++_}
@@ -12,16 +12,16 @@ use Rattle.capture_file.specs.declared.number.NumberRead.the-variants.{N
 use Rattle.capture_file.specs.declared.file.HeadRead.{HeadRead}
 use Rattle.capture_file.specs.declared.file.HeadRead.the-variants as Start
 
--- a buffer with a list put over its elements from a place on
+-- a buffer in which a list replaces the elements from a place on
 abbrev pub put : ℕ → List ℕ → List ℕ → List ℕ
 put at xs out = take at out ++ xs ++ drop (at + length xs) out
 
--- a number that was read in bytes, with the bytes from the place after it on
+-- a number that was read from bytes, with the bytes after it
 abbrev pub numberAnswer : List ℕ → NumberRead → Answer Headed
 numberAnswer bytes (Number n next) = given (headed n (drop next bytes))
 numberAnswer bytes NotANumber = refused notACapture
 
--- what was read before the samples, with the bytes from the place after it on
+-- what was read before the samples, with the bytes after it
 abbrev pub headAnswer : List ℕ → HeadRead → Answer Head
 headAnswer bytes (Start.Head count mask edt next) = given (record { count = count; mask = mask; edt = edt; rest = drop next bytes })
 headAnswer bytes Start.NotACapture = refused notACapture

@@ -1,4 +1,4 @@
--- Lines of the bench as a table: document 01's own first, then each kind, and refusals.
+-- Lines of the bench in a table: document 01's own first, then each kind, and refusals.
 -- Assumes nothing.
 use Prim.Native.Nat.{ℕ}
 use Prim.Native.String.{String}
@@ -8,7 +8,7 @@ use Rattle.dshot_reply_spec.specs.Answer.{Answer, refused}
 use Rattle.dshot_reply_spec.specs.Gcr.{replyWord}
 use Rattle.capture_file.specs.Line.{Listed, listedWord, lineOf, ascii}
 
--- what is told of a capture, and its line
+-- a row: what the line says of a capture, or the capture's refusal, and the line
 pub record Row : Type 0 where
   pub told : Answer Listed
   pub line : String
@@ -17,7 +17,7 @@ pub record Row : Type 0 where
 abbrev word : ℕ → Bool → String → Row
 word v extended line = record { told = listedWord (replyWord v) extended; line = line }
 
--- a refusal of another layer, by its number
+-- a refusal by another layer, with its number
 abbrev number : ℕ → String → Row
 number n line = record { told = refused n; line = line }
 
@@ -38,7 +38,7 @@ fixedLines =
     ∷ number 17 "refused 17\n"
     ∷ []
 
--- the lines that are told, and those of the table
+-- the lines that the rows give, and those in the table
 abbrev pub toldLines : List (List ℕ)
 toldLines = map (λ (r : Row). lineOf (r .told)) fixedLines
 

@@ -15,13 +15,14 @@ use Rattle.dshot_reply_spec.specs.Runs.{transitionsOf}
 use Rattle.dshot_reply_spec.specs.Value.{Reading, replyOf}
 use Rattle.capture_file.specs.declared.line.Line.{Line}
 
--- what the line tells of a capture that can be read
+-- what the line says of a capture that can be read
 pub record Listed : Type 0 where
   pub word : ℕ
   pub value : ℕ
   pub reading : Reading
 
--- of a word's value, of a word, and of a capture of three samples a bit: what each layer of the reader gives, or the first refusal
+-- What each layer of the reader gives, or the first refusal. The three definitions are for a word's value, for a word, and for a capture at three
+-- samples a bit.
 unfoldable pub listedValue : ℕ → ℕ → Bool → Answer Listed
 listedValue w v extended = andThen (replyOf v extended) (λ r. given (record { word = w; value = v; reading = r }))
 
@@ -45,12 +46,12 @@ unfoldable pub hexadecimal : ℕ → ℕ → List ℕ
 hexadecimal zero x = []
 hexadecimal (suc n) x = hexadecimal n (x / 16) ++ (digit (x % 16) ∷ [])
 
--- a number's decimal digits, with no leading zeros; at most n, which are enough for a number below 10 ^ n
+-- A number's decimal digits, with no leading zeros. They are at most n, which is enough for a number below 10 ^ n.
 unfoldable pub decimalWithin : ℕ → ℕ → List ℕ
 decimalWithin zero x = []
 decimalWithin (suc n) x = if ltb x 10 then digit x ∷ [] else decimalWithin n (x / 10) ++ (digit (x % 10) ∷ [])
 
--- ten are enough for 32 bits
+-- the decimal digits of a number of 32 bits: ten are enough
 abbrev pub decimal : ℕ → List ℕ
 decimal x = decimalWithin 10 x
 
@@ -61,18 +62,18 @@ kindTexts = "erpm" ∷ "temp" ∷ "volt" ∷ "amp" ∷ "debug1" ∷ "debug2" ∷
 unfoldable pub kindText : ℕ → List ℕ
 kindText kind = ascii (getD kindTexts kind "")
 
--- fields with a space between, and a line feed after them
+-- fields with a space between them, and a line feed after them
 abbrev pub spaced : List (List ℕ) → List ℕ
 spaced [] = ascii "\n"
 spaced (f ∷ []) = f ++ ascii "\n"
 spaced (f ∷ g ∷ fs) = f ++ (ascii " " ++ spaced (g ∷ fs))
 
--- word, value, kind and number; or that the capture is refused, and the number of the refusal
+-- The line: word, value, kind and number. If the capture is refused, it is "refused" and the number of the refusal.
 unfoldable pub lineOf : Answer Listed → List ℕ
 lineOf (given l) =
     spaced (hexadecimal 6 (l .word) ∷ hexadecimal 3 (l .value) ∷ kindText (kindNumber (l .reading)) ∷ decimal (readingNumber (l .reading)) ∷ [])
 lineOf (refused n) = spaced (ascii "refused" ∷ decimal n ∷ [])
 
--- a line as the code hands it out: its bytes, with zeros after them, and how many they are
+-- a line as the code hands it out: its bytes, zeros after them, and the number of its bytes
 abbrev pub padded : List ℕ → Line
 padded l = record { bytes = l ++ replicate (32 - length l) 0; length = length l }

@@ -72,7 +72,7 @@ fn read_head(file: &[u8]) -> HeadRead
     }
 }
 
-// Whether `count` numbers stand from a place on, and nothing after them.
+// Whether `count` numbers stand from a place on, with nothing after them.
 fn are_samples(file: &[u8], from: usize, count: usize) -> bool
     ensures { λ r. ⌜ r ≡ isGiven (readAll count (drop from (now (file .entry)))) ⌝ }
 {
@@ -92,7 +92,7 @@ fn are_samples(file: &[u8], from: usize, count: usize) -> bool
     file.len() <= at
 }
 
-// Fills the first slots with the numbers from a place on, all of which were found to be there.
+// Fills the first slots with the numbers from a place on. All of them are known to be there.
 fn fill_samples(file: &[u8], from: usize, count: usize, samples: &mut [u16])
     requires { ⌜ (count ≤ length (now samples)) × (isGiven (readAll count (drop from (now file))) ≡ true) ⌝ }
     ensures { λ r. ⌜ now (samples .exit)
@@ -114,7 +114,7 @@ fn fill_samples(file: &[u8], from: usize, count: usize, samples: &mut [u16])
     }
 }
 
-// What stands in a file beside its samples, or why it was not read.
+// What a file holds besides its samples, or why it was not read.
 pub enum CaptureRead {
     Capture {
         count: usize,
@@ -125,8 +125,8 @@ pub enum CaptureRead {
     WrongLength,
 }
 
-// Reads a file whose samples go into the first of `FILE_SAMPLES` slots. The others stay as they were, and all of them where the answer is a
-// refusal: the whole file is read before the first slot is filled.
+// Reads a file. Its samples go into the first of `FILE_SAMPLES` slots, and the other slots stay as they were. The whole file is read before the first
+// slot is filled. So if the call refuses, all slots stay as they were.
 pub fn read_capture(file: &[u8], samples: &mut [u16]) -> CaptureRead
     ensures { λ r. ⌜ readAnswer r ≡ andThen (readInto (now (file .entry)) (now (samples .entry))) told ⌝ }
     ensures { λ r. ⌜ now (samples .exit)
@@ -170,7 +170,7 @@ fn put_samples(file: &mut [u8], from: usize, samples: &[u16]) -> usize
     at
 }
 
-// The length of the file that was written, or that a length does not fit.
+// The length of the file that was written. If a slice has the wrong length, the refusal.
 pub enum CaptureWritten {
     Length(usize),
     WrongLength,
@@ -182,7 +182,7 @@ fn flag(set: bool) -> u16
     if set { 1 } else { 0 }
 }
 
-// Writes the file of a capture at the front of a buffer of `FILE_BYTES`, and leaves the rest of the buffer as it was.
+// Writes the file of a capture at the front of a buffer of `FILE_BYTES` bytes. The rest of the buffer stays as it was.
 pub fn write_capture(
     samples: &[u16],
     pin_mask: u16,

@@ -1,4 +1,4 @@
-// Captures at the bench, added: the capture file, and the line that is printed for a capture.
+// Added: captures at the bench. They are the capture file, and the line that is printed for a capture.
 
 // Files, read and written.
 pub mod file;

@@ -16,13 +16,13 @@ ghost use Rattle.capture_file.specs.Steps.{pushed, written};
 // Room for a line: no line has more than 29 bytes.
 pub const LINE_ROOM: usize = 32;
 
-// The bytes of a line, zeros after them, and how many they are.
+// The bytes of a line, zeros after them, and the number of its bytes.
 pub struct Line {
     pub bytes: [u8; LINE_ROOM],
     pub length: usize,
 }
 
-// A line that is full would stay as it is.
+// A full line stays as it is.
 fn push(line: Line, byte: u8) -> Line
     ensures { λ r. ⌜ r ≡ pushed line byte ⌝ }
 {

@@ -12,7 +12,7 @@ ghost use mathlib.Core.Path.{_≡_};
 ghost use Rattle.capture_file.specs.Line.{padded};
 ghost use Rattle.capture_file.specs.Listing.{fileLine};
 
-// The line that is printed for a file's bytes: that of the capture in it, or `refused 17`.
+// The line that is printed for a file's bytes. It is that of the capture in the file. If there is none, it is `refused 17`.
 pub fn file_line(file: &[u8]) -> Line
     ensures { λ r. ⌜ r ≡ padded (fileLine (now (file .entry))) ⌝ }
 {

@@ -1,4 +1,5 @@
-// Added: a number of a capture file, in groups of seven bits, lowest first, the top bit set on all groups but the last, in the shortest form.
+// Added: a number of a capture file. It is in groups of seven bits, lowest first, in the shortest form. Every group except the last has the top bit
+// set.
 
 ghost use mathlib.Core.Path.{_≡_};
 ghost use Prim.Native.Nat.{_+_, _≤_};
@@ -6,7 +7,7 @@ ghost use lib.ListN.{length, drop, getD};
 ghost use Rattle.capture_file.specs.Groups.{groups, readNumber};
 ghost use Rattle.capture_file.specs.FileSteps.{put, numberAnswer};
 
-// The byte at a place, and 0 past the end.
+// The byte at a place. Past the end it is 0.
 fn byte_at(file: &[u8], at: usize) -> u16
     ensures { λ r. ⌜ (r ≡ getD (now (file .entry)) at 0) × (r ≤ 255) ⌝ }
 {
@@ -16,13 +17,13 @@ fn byte_at(file: &[u8], at: usize) -> u16
     0
 }
 
-// A number and the place after it, or that none stands there.
+// A number and the place after it, or that no number stands there.
 pub(crate) enum NumberRead {
     Number { value: u16, next: usize },
     NotANumber,
 }
 
-// Reads the number that stands at a place. A group that follows another is not 0, so 0 is also the right byte for one that is missing.
+// Reads the number that stands at a place. A group that follows another is not 0. So 0 can also stand for a group that is missing.
 pub(crate) fn read_number(file: &[u8], at: usize) -> NumberRead
     ensures { λ r. ⌜ numberAnswer (now (file .entry)) r ≡ readNumber (drop at (now (file .entry))) ⌝ }
 {
@@ -50,7 +51,7 @@ pub(crate) fn read_number(file: &[u8], at: usize) -> NumberRead
     if high == 0 {
         return NumberRead::NotANumber;
     }
-    // From 4 on, or with a fourth group, the number is above 65535.
+    // If the third group is 4 or more, or has the top bit set, the number is above 65535.
     if 3 < high {
         return NumberRead::NotANumber;
     }
