@@ -1,5 +1,5 @@
--- The arguments of an exported call of a bank that are given in slots: what the hardware answered, and a run of commands.
--- Added, for the calls that document 01 asks for from C.
+-- The arguments of an exported call of a bank that come in slots: the hardware's answers, and a run of commands.
+-- Added: document 01 asks for calls from C.
 -- Assumes nothing.
 use Prim.Native.Nat.{ℕ, _+_}
 use mathlib.Core.Bool.{Bool}
@@ -9,7 +9,7 @@ use Rattle.dshot_spec.specs.Command.{CommandRun}
 use Rattle.bank_slots_spec.specs.Memory.{at}
 use Rattle.bank_slots_spec.specs.Load.{flag, four, runFrom}
 
--- ---- what the hardware answered, in twelve slots: for each lane whether it took its buffer, whether it has a capture, and its mask
+-- ---- the hardware's answers in twelve slots: for each lane whether it took its buffer, whether it has a capture, and its mask
 
 abbrev pub taken : List ℕ → List Bool
 taken xs = four (λ (i : ℕ). flag (getD xs i 0))

@@ -1,4 +1,4 @@
--- What the parts of service and of an interrupt do to the slots of a bank, and tell in lent slots. Only private functions cite this.
+-- What the parts of a service and of an interrupt do to the slots of a bank, and put into the slots of the answer. Only private functions cite this.
 -- Assumes nothing.
 use Prim.Native.Nat.{ℕ}
 use mathlib.Core.Path.{_≡_}

@@ -1,5 +1,5 @@
--- The bank that the contents of 97 slots are, whatever they are.
--- Added, for the calls that document 01 asks for from C.
+-- The bank that 97 slots mean, whatever they hold.
+-- Added: document 01 asks for calls from C.
 -- Assumes nothing.
 use Prim.Native.Nat.{ℕ, _+_, _-_, _*_, _%_, min}
 use mathlib.Core.Bool.{Bool, false, not}
@@ -15,23 +15,23 @@ use Rattle.dshot_bank_spec.specs.State.{Demand, Telemetry, MotorRun, Frame, Sta
 use Rattle.bank_slots_spec.specs.Memory.{at, word, long}
 use Rattle.bank_slots_spec.specs.Places.{slots, TIMING, VALUES, LEASE-STARTED, LEASE-OVER, REQUEST, REQUEST-SENT, RUN, BUSY, FAULTED, BIDIRECTIONAL, RECEIVING, REPLIES-WAITING, REPLIES-HELD, IN-SECOND, COMPLETION-MASK, STARTED, FRAMES-STARTED, FRAMES-COMPLETED, LANE-COMPLETIONS, BUSY-SKIPS, LEASE-EXPIRIES, FRAME-TIMEOUTS, DMA-FAULTS, SPURIOUS, REPLIES}
 
--- a flag: 0 is no, any other number yes
+-- a flag: 0 means no, any other number means yes
 abbrev pub flag : ℕ → Bool
 flag n = not (eqb n 0)
 
--- a motor or none: 0 is none, else the lane is one less, modulo 4
+-- a motor or none: 0 means none; any other number means the lane number - 1, modulo 4
 abbrev pub choice : ℕ → Option ℕ
 choice n = if eqb n 0 then none else some ((n - 1) % 4)
 
--- a stored refusal is a kind above those of readings: this and its number, so that no number means two things
+-- The kind of a stored refusal is 16 + its number. It is above the kinds of readings, so no number means two things.
 abbrev pub REFUSED : ℕ
 REFUSED = 16
 
--- the kinds of the five refusals of a reply, 7 to 11
+-- whether a kind is that of one of the five refusals of a reply, 7 to 11
 abbrev pub isRefusedKind : ℕ → Bool
 isRefusedKind k = if ltb k (REFUSED + noReply) then false else leb k (REFUSED + zeroPeriod)
 
--- a reply by its kind and number: the kinds of the bench's line are readings, and any kind that is none is no reply
+-- A reply by its kind and number. The kinds of the bench's line are readings. Any kind that is none means 7 (no reply).
 abbrev pub reply : ℕ → ℕ → Answer Reading
 reply k n =
     if eqb k 0 then given (erpm n) else
@@ -46,20 +46,20 @@ reply k n =
     if isRefusedKind k then refused (k - REFUSED) else
     refused noReply
 
--- a run of two commands in the four slots from k: the commands, the index, and how often the command is still to be sent. An index above 255 is
--- spent, as 255 is, and of the last slot the low byte counts; so it is of an argument and of the state
+-- A run of two commands in the four slots from k on: the commands, the index, and how often to send the command yet. An index above 255 is spent, as
+-- 255 is. Only the low byte of the last slot counts. A run in an argument and a run in the state are read in the same way.
 abbrev pub runFrom : ℕ → (ℕ → ℕ) → CommandRun
 runFrom k m = record { commands = m k ∷ m (k + 1) ∷ []; index = min (m (k + 2)) 255; repeatsLeft = m (k + 3) % 256 }
 
--- four of something, by its place
+-- four things, by their places
 abbrev pub four : {A : Type 0} → (ℕ → A) → List A
 four f = f 0 ∷ f 1 ∷ f 2 ∷ f 3 ∷ []
 
--- and four lists, one behind the other
+-- four lists, one behind the other
 abbrev pub fourLists : {A : Type 0} → (ℕ → List A) → List A
 fourLists f = f 0 ++ (f 1 ++ (f 2 ++ f 3))
 
--- a lane's record from slot k: a reply's kind and number, and the counts of it
+-- a lane's record in the slots from k on: the reply's kind and number, and its three counts
 abbrev pub laneFrom : ℕ → (ℕ → ℕ) → LaneReply
 laneFrom k m = record { reply = reply (m k) (word (k + 1) m); valid = word (k + 3) m; invalid = word (k + 5) m; consecutiveInvalid = word (k + 7) m }
 
@@ -73,7 +73,7 @@ module _ (m : ℕ → ℕ) where
   abbrev pub telemetryAt : Telemetry
   telemetryAt = record { request = choice (m REQUEST); requestSent = choice (m REQUEST-SENT) }
 
-  -- a motor or none, and its run
+  -- a motor and its run, or none
   abbrev pub runAt : Option MotorRun
   runAt = if eqb (m RUN) 0 then none else some (record { motor = (m RUN - 1) % 4; sequence = runFrom (RUN + 1) m })
 
@@ -105,9 +105,11 @@ module _ (m : ℕ → ℕ) where
   abbrev pub coreAt : Core
   coreAt = record { timing = timingAt; demand = demandAt; telemetry = telemetryAt; commandSequence = runAt; frame = frameAt; stats = statsAt }
 
+  -- lane i's record
   abbrev pub laneAt : ℕ → LaneReply
   laneAt i = laneFrom (REPLIES + 9 * i) m
 
+  -- the whole bank
   abbrev pub bankAt : Bank
   bankAt = record { core = coreAt; replies = four laneAt }
 

@@ -8,11 +8,11 @@ use Rattle.dshot_bank_spec.specs.With.{withCore}
 use Rattle.bank_slots_spec.specs.Load.{load}
 use Rattle.bank_slots_spec.specs.Written.{Written}
 
--- a step on the core
+-- a step that changes only the core
 abbrev pub onCore : (Core → Core) → Bank → Bank
 onCore f b = withCore (f (b .core)) b
 
--- the bank in the slots takes a step, whatever they hold, and what the library wrote stays such
+-- The bank in the slots takes a step, whatever they hold. If the library wrote the slots before, they are still such as it writes.
 pub record Moves (f : Bank → Bank) (before after : List ℕ) : Type 0 where
   pub loads : load after ≡ f (load before)
   pub keeps : Written before → Written after

@@ -1,5 +1,5 @@
 -- How an exported call of a bank puts its answer into the slots that it is lent.
--- Added, for the calls that document 01 asks for from C.
+-- Added: document 01 asks for calls from C.
 -- Assumes nothing.
 use mathlib.Core.Bool.{Bool, false, not}
 use Prim.Native.Nat.{ℕ, _+_, _-_, _*_, _/_, _%_}
@@ -27,7 +27,7 @@ use Rattle.bank_slots_spec.specs.Called.{number}
 
 -- ---- events and orders
 
--- in the order of DshotServiceEvent and DshotInterruptEvent
+-- the number of an event, in the order of the Rust's `DshotServiceEvent` and `DshotInterruptEvent`
 abbrev pub serviceEvent : ServiceEvent → ℕ
 serviceEvent Service.frame-started = 0
 serviceEvent Service.busy = 1
@@ -39,8 +39,8 @@ interruptEvent Interrupt.completed = 0
 interruptEvent Interrupt.faulted = 1
 interruptEvent Interrupt.spurious = 2
 
--- the number of a service's order. One to exchange also tells which buffer the lane is given: 4 more for the second, which is its spare where it
--- sends from the first
+-- The number of a service's order. An order to exchange also names the buffer that the lane is given: it is 4 more for the second. If a lane sends
+-- from the first buffer, the second is its spare.
 abbrev pub codeGiven : List Bool → Order → ℕ
 codeGiven inSecond (exchange-buffer m) = code (exchange-buffer m) + 4 * bit (not (getD inSecond m false))
 codeGiven inSecond (start-dma m) = code (start-dma m)
@@ -51,15 +51,15 @@ codeGiven inSecond (pause-and-clear m) = code (pause-and-clear m)
 codeGiven inSecond begin-receive = code begin-receive
 codeGiven inSecond end-receive = code end-receive
 
--- the numbers of some orders, and zeros up to n
+-- the numbers of some orders, with zeros after them up to n
 abbrev pub codes : ℕ → (Order → ℕ) → List Order → List ℕ
 codes n number l = map number l ++ replicate (n - length l) 0
 
--- the event, how many orders, and each; then the first duties
+-- the event, the number of orders, and the orders; then the first duties
 abbrev pub serviceSlots : ServiceEvent → List Order → List Bool → List ℕ
 serviceSlots e l inSecond = serviceEvent e ∷ length l ∷ (codes 9 (codeGiven inSecond) l ++ dutiesIn l)
 
--- an interrupt exchanges no buffer
+-- the same of an interrupt, which exchanges no buffer and has no duties
 abbrev pub interruptSlots : InterruptEvent → List Order → List ℕ
 interruptSlots e l = interruptEvent e ∷ length l ∷ codes 7 code l
 
@@ -68,12 +68,12 @@ interruptSlots e l = interruptEvent e ∷ length l ∷ codes 7 code l
 abbrev pub wordSlots : ℕ → List ℕ
 wordSlots n = n % 65536 ∷ n / 65536 ∷ []
 
--- 1 and the lane, or 0 and 0 for none
+-- 1 and the lane; 0 and 0 if there is none
 abbrev pub motorSlots : Option ℕ → List ℕ
 motorSlots none = 0 ∷ 0 ∷ []
 motorSlots (some lane) = 1 ∷ lane ∷ []
 
--- the counts in the order of DshotStats
+-- the counts in the order of the Rust's `DshotStats`
 abbrev pub countSlots : Stats → List ℕ
 countSlots s =
     wordSlots (s .framesStarted)
@@ -85,19 +85,19 @@ countSlots s =
     ++ (wordSlots (s .dmaFaults)
     ++ wordSlots (s .spuriousInterrupts)))))))
 
--- each count of the four lanes, in the order of DshotReplyStats
+-- each count of the four lanes, in the order of the Rust's `DshotReplyStats`
 abbrev pub replyCountSlots : ReplyStats → List ℕ
 replyCountSlots s =
     fourLists (λ (i : ℕ). wordSlots (getD (s .valid) i 0))
     ++ (fourLists (λ (i : ℕ). wordSlots (getD (s .invalid) i 0))
     ++ fourLists (λ (i : ℕ). wordSlots (getD (s .consecutiveInvalid) i 0)))
 
--- a lane's reply: 0, the kind and the number, or the refusal's number and zeros
+-- a lane's reply: 0, the kind and the number; if it is refused, the refusal's number and zeros
 abbrev pub replySlots : Reply.Answer Reading → List ℕ
 replySlots (given r) = 0 ∷ kindNumber r ∷ wordSlots (readingNumber r)
 replySlots (refused n) = n ∷ 0 ∷ 0 ∷ 0 ∷ []
 
--- 1 and the replies of the four lanes; or, where none are held, 0 and no reply of each lane, so that none reads as a rotor at rest
+-- 1 and the replies of the four lanes. If none are held, 0 and 7 (no reply) for each lane, so that no lane reads as a rotor at rest.
 abbrev pub repliesSlots : Option (List (Reply.Answer Reading)) → List ℕ
 repliesSlots none = 0 ∷ fourLists (λ (i : ℕ). replySlots (refused noReply))
 repliesSlots (some l) = 1 ∷ fourLists (λ (i : ℕ). replySlots (getD l i (refused noReply)))
@@ -116,6 +116,6 @@ slotsOf (values v) = v
 slotsOf (reply-counts r) = replyCountSlots r
 slotsOf (slots l) = l
 
--- what lent slots hold after an answer: what is made of it, or what they held before where it is a refusal
+-- what lent slots hold after an answer: the answer in slots; if it is a refusal, what they held before
 unfoldable pub outAfter : Answer → List ℕ → List ℕ
 outAfter a before = if eqb (number a) 0 then slotsOf a else before

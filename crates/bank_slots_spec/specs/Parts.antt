@@ -16,7 +16,7 @@ use Rattle.dshot_reply_spec.specs.Answer.{if_then_else_}
 use Rattle.bank_slots_spec.specs.Load.{reply}
 use Rattle.bank_slots_spec.specs.Memory.{Row, _holds_, at, write, word, wordRows}
 
--- one more in the count at slot k
+-- the slots with one more in the count at slot k
 abbrev pub bumped : ℕ → List ℕ → List ℕ
 bumped k xs = write (wordRows k (wrappingAdd (word k (at xs)))) xs
 
@@ -33,11 +33,11 @@ requestsCleared c = withCommandSequence none (withTelemetry (record { request = 
 
 -- ---- commands
 
--- a demand in force
+-- the core with a demand in force
 abbrev pub demanded : List ℕ → ℕ → ℕ → Core → Core
 demanded commands now lease c = withDemand (record { requestedValues = throttleValues 4 commands; leaseStartedMs = now; leaseDurationMs = some lease }) c
 
--- a run queued
+-- the core with a run queued
 abbrev pub queued : ℕ → CommandRun → Core → Core
 queued motor sequence c = withCommandSequence (some (record { motor = motor; sequence = sequence })) c
 
@@ -46,29 +46,29 @@ queued motor sequence c = withCommandSequence (some (record { motor = motor; seq
 abbrev pub withReplies : List LaneReply → Bank → Bank
 withReplies l b = record { core = b .core; replies = l }
 
--- the windows read, where they wait
+-- the bank after its windows are read, if they wait
 abbrev pub windowsRead : List Bool → List ℕ → List ℕ → Bank → Bank
 windowsRead present masks samples b =
     record { core = repliesRead (b .core); replies = readReplies 4 (b .core .frame .repliesWaiting) present masks samples (b .replies) }
 
 -- ---- sending
 
--- the run stepped
+-- the core after its run is stepped
 abbrev pub runStepped : Core → Core
 runStepped c = withCommandSequence (nextCommandFrame c .left) c
 
--- the marks of the first lanes turned
+-- the core after the marks of the first lanes turn
 abbrev pub marksTurned : ℕ → Core → Core
 marksTurned turned c = withFrame (withInSecond (turnMarks 4 turned (c .frame .inSecond)) (c .frame)) c
 
--- an ordinary frame carries the pending request, and a special command's none
+-- An ordinary frame carries the pending request. The frame of a special command carries none.
 abbrev pub carriedBy : Bool → Core → Option ℕ
 carriedBy ordinary c = if ordinary then c .telemetry .request else none
 
 abbrev pub requestCarried : Bool → Core → Core
 requestCarried ordinary c = withTelemetry (carry (carriedBy ordinary c) (c .telemetry)) c
 
--- a frame set in flight, but for what it carries
+-- the core with a frame set in flight, without the request that it carries
 abbrev pub inFlight : ℕ → Core → Core
 inFlight now c =
     withStats (withFramesStarted (wrappingAdd (c .stats .framesStarted)) (c .stats))

@@ -16,28 +16,29 @@ use Rattle.bank_slots_spec.specs.Storable.{Below}
 use Rattle.bank_slots_spec.specs.Called.{Called, number, stateAt, answerOf, buffersAfter}
 use Rattle.bank_slots_spec.specs.Outs.{outAfter}
 
--- a call from C: whether the slices that are lent for the state, for arguments and for the answer have the right lengths, the bank's call, and what
--- the slots that are lent for the answer hold before it (none, where the call asks for none)
+-- A call from C. `fits` says whether the slices for the state, the arguments and the answer have the right lengths. `call` is the bank's call. `out`
+-- is what the slots for the answer hold before it; if the call asks for none, it is empty.
 pub record Made : Type 0 where
   pub fits : Bool
   pub call : Call
   pub out : List ℕ
 
--- what such a call answers and leaves: a step of the bank, or 13
+-- what such a call answers and leaves: a step of the bank; if a slice does not fit, 13 (wrong length)
 abbrev pub made : State → Made → Stepped
 made s m = if m .fits then step 4 s (m .call) else told s (refused wrongLength)
 
--- each call's answer, with the state that it left
+-- the trace of a list: each call's answer, with the state that it left
 abbrev pub madeTrace : State → List Made → List Stepped
 madeTrace s [] = []
 madeTrace s (m ∷ ms) = made s m ∷ madeTrace (made s m .state) ms
 
--- the state that a list leaves
+-- the state after a list
 abbrev pub madeRun : State → List Made → State
 madeRun s [] = s
 madeRun s (m ∷ ms) = madeRun (made s m .state) ms
 
--- what a host is shown by a call: the number that it returns, the slots of its answer, and the bank in the slots with the buffers
+-- What a call shows to a host: the number that it returns, the slots of its answer, and the state. The state is the bank in the slots, and the
+-- buffers.
 pub record Shown : Type 0 where
   pub returned : ℕ
   pub answer : List ℕ
@@ -51,8 +52,8 @@ shownAll [] rs = []
 shownAll (m ∷ ms) [] = []
 shownAll (m ∷ ms) (r ∷ rs) = shownBy m r ∷ shownAll ms rs
 
--- a list of exported calls as it went: each as it is promised, on the slots and buffers that the one before left, with what it showed. A slice keeps
--- its length, and its slots their sixteen bits
+-- A list of exported calls that ran. Each call did as it promises, on the slots and buffers that the call before it left, and showed something. A
+-- slice keeps its length, and its slots keep their sixteen bits.
 pub data Ran : List ℕ → Buffers → List Made → List Shown → Type 0 where
   none-left : {xs : List ℕ} {b : Buffers} → Ran xs b [] []
   one-more : {xs ys out : List ℕ} {b b′ : Buffers} {m : Made} {ms : List Made} {r : ℕ} {rest : List Shown}
@@ -71,7 +72,7 @@ leaves (one-more {ys = ys} c e o n w rest) = ys ∷ leaves rest
 
 -- ---- parts of a list
 
--- the bank's calls among them, those whose slices fit, and their part of a trace
+-- the bank's calls in a list, which are those whose slices fit, and their part of a trace
 abbrev pub fitting : List Made → List Call
 fitting [] = []
 fitting (m ∷ ms) = if m .fits then m .call ∷ fitting ms else fitting ms
@@ -91,18 +92,18 @@ actingMadeOf [] rs = []
 actingMadeOf (m ∷ ms) [] = []
 actingMadeOf (m ∷ ms) (r ∷ rs) = if isLook (m .call) then actingMadeOf ms rs else r ∷ actingMadeOf ms rs
 
--- ---- lists alike
+-- ---- lists that are alike
 
--- two lists, as long as each other, whose bank's calls are related call by call, and of which all else is the same
+-- Two lists of the same length. Their bank's calls are related call by call, and all else is the same.
 pub data MadeByMade (R : Call → Call → Type 0) : List Made → List Made → Type 0 where
   both-end : MadeByMade R [] []
   both-more : {fits : Bool} {out : List ℕ} {c c′ : Call} {ms ms′ : List Made} → R c c′ → MadeByMade R ms ms′
       → MadeByMade R (record { fits = fits; call = c; out = out } ∷ ms) (record { fits = fits; call = c′; out = out } ∷ ms′)
 
--- two lists alike but in one lane's captures
+-- two lists that differ only in one lane's captures
 abbrev pub MadeAlike : ℕ → List Made → List Made → Type 0
 MadeAlike lane = MadeByMade (Alike lane)
 
--- and in whether that lane has a capture
+-- two lists that may also differ in whether that lane has a capture
 abbrev pub MadeWireAlike : ℕ → List Made → List Made → Type 0
 MadeWireAlike lane = MadeByMade (WireAlike lane)

@@ -1,5 +1,5 @@
--- Which banks the library's types can hold, with the debug channels that the reader gives.
--- Added, for the calls that document 01 asks for from C.
+-- The banks that the library's types can hold, with the debug channels that the reader gives.
+-- Added: document 01 asks for calls from C.
 -- Assumes nothing.
 use Prim.Native.Nat.{ℕ, _+_, _^_, _<_, _≤_}
 use mathlib.Core.Path.{_≡_}
@@ -12,7 +12,7 @@ use Rattle.dshot_bank_spec.specs.State.{MotorRun, Bank}
 use Rattle.dshot_bank_spec.specs.Commands.{noReplies}
 use Rattle.bank_slots_spec.specs.Memory.{at}
 
--- every slot has 16 bits
+-- Every slot has 16 bits.
 abbrev pub Below : List ℕ → Type 0
 Below xs = (i : ℕ) → at xs i < 65536
 
@@ -44,8 +44,8 @@ ReplyFits (given (state n)) = n < 256
 ReplyFits (given edt) = Unit
 ReplyFits (refused number) = (7 ≤ number) × (number ≤ 11)
 
--- a bank of four lanes that the library's types can hold, with debug channels 1 to 3, since the reader gives no other. Numbers of 16 and 32 bits are
--- not bounded here: they come back whatever they are
+-- A bank of four lanes that the library's types can hold. Its debug channels are 1 to 3, since the reader gives no other. Numbers of 16 and 32 bits
+-- are not bounded here: they come back whatever they are.
 pub record Storable (b : Bank) : Type 0 where
   pub values : length (b .core .demand .requestedValues) ≡ 4
   pub leaseStarted : b .core .demand .leaseStartedMs < 2 ^ 64

@@ -1,5 +1,5 @@
 -- The contents of the 97 slots that are written for a bank.
--- Added, for the calls that document 01 asks for from C.
+-- Added: document 01 asks for calls from C.
 -- Assumes nothing.
 use Prim.Native.Nat.{ℕ, _+_, _*_}
 use mathlib.Core.Bool.{Bool, false}
@@ -28,7 +28,7 @@ abbrev pub leaseNumber : Option ℕ → ℕ
 leaseNumber none = 0
 leaseNumber (some duration) = duration + 1
 
--- a stored reply has the kind and number of its line, or the kind of its refusal and 0
+-- The kind and the number of a stored reply. A reading has those of the bench's line. A refusal has its kind, and the number 0.
 abbrev pub replyKind : Answer Reading → ℕ
 replyKind (given r) = kindNumber r
 replyKind (refused number) = REFUSED + number
@@ -53,7 +53,7 @@ abbrev pub runMotor : Option MotorRun → ℕ
 runMotor none = 0
 runMotor (some r) = r .motor + 1
 
--- a number of the run, and 0 without one
+-- a number of the run; 0 if there is none
 abbrev pub ofRun : (CommandRun → ℕ) → Option MotorRun → ℕ
 ofRun f none = 0
 ofRun f (some r) = f (r .sequence)
@@ -97,7 +97,7 @@ coreRows c =
     ++ (frameRows (c .frame)
     ++ statsRows (c .stats)))))
 
--- a reply's rows from slot k, and those of its counts
+-- the rows of a reply from slot k on; `laneRows` has those of its counts too
 abbrev pub replyRows : ℕ → Answer Reading → List Row
 replyRows k a = (k holds replyKind a) ∷ wordRows (k + 1) (replyNumber a)
 

@@ -1,5 +1,5 @@
--- Which contents the library writes: only in these can slots differ from those that are stored for the bank that they mean.
--- Added, for the calls that document 01 asks for from C.
+-- The contents that the library writes. The test looks only at slots whose contents can differ and still mean the same bank.
+-- Added: document 01 asks for calls from C.
 -- Assumes nothing.
 use Prim.Native.Nat.{ℕ, _+_}
 use mathlib.Core.Path.{_≡_}
@@ -17,13 +17,13 @@ isFlag n = ltb n 2
 abbrev pub isChoice : ℕ → Bool
 isChoice n = ltb n 5
 
--- without a run its slots are 0
+-- If there is no run, its slots are 0.
 abbrev pub isRun : ℕ → ℕ → ℕ → ℕ → ℕ → Bool
 isRun motor first second index left =
     if eqb motor 0 then (if eqb first 0 then (if eqb second 0 then (if eqb index 0 then eqb left 0 else false) else false) else false) else
     if ltb motor 5 then (if ltb index 256 then ltb left 256 else false) else false
 
--- the numbers that a reply of each kind may have
+-- whether a reply of this kind may have this number
 abbrev pub isReply : ℕ → ℕ → Bool
 isReply kind n =
     if eqb kind 0 then true else
@@ -64,6 +64,6 @@ module _ (m : ℕ → ℕ) where
   abbrev pub WrittenAt : Type 0
   WrittenAt = FlagsWritten × (MarksWritten × (RequestsWritten × RepliesWritten))
 
--- contents that the library writes
+-- The library writes such contents.
 unfoldable pub Written : List ℕ → Type 0
 Written xs = WrittenAt (at xs)
