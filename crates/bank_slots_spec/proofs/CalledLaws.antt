@@ -1,4 +1,4 @@
--- What a call on the slots of a bank owes where it refuses, and where it takes its step.
+-- What a call on the slots of a bank promises, if it refuses and if it takes its step.
 -- Assumes nothing.
 use mathlib.Core.Path.{_≡_, _∙_, refl, sym, ap, subst}
 use mathlib.Core.Bool.{Bool, true, false}

@@ -1,4 +1,4 @@
--- A call on slots that the library wrote: every slot after it is what would be written for the bank after its step, and that bank fits again.
+-- A call on slots that the library wrote. Every slot after it is what would be written for the bank after its step. That bank fits again.
 -- Assumes nothing.
 use mathlib.Core.Path.{_≡_, _∙_, sym, ap, subst}
 use mathlib.Core.Bool.{Bool}

@@ -1,4 +1,4 @@
--- What each call that makes a bank or commands it owes, where it refuses and where it takes its step.
+-- What each call that makes a bank or commands it promises, if it refuses and if it takes its step.
 -- Assumes nothing.
 use mathlib.Core.Path.{_≡_, _∙_, refl, sym, ap}
 use mathlib.Core.Bool.{Bool, true, false, not}

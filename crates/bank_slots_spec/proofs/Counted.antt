@@ -1,4 +1,4 @@
--- A completion counted in the slots, for a lane that is only known to be one of the four.
+-- A completion is counted in the slots, for a lane that is only known to be one of the four.
 -- Assumes nothing.
 use mathlib.Core.Path.{_≡_, _∙_, refl}
 use mathlib.Core.Bool.{true}

@@ -1,4 +1,4 @@
--- What the steps that calls share write, those of a stop, a run and a latched fault, and what that does to the bank in the slots.
+-- What the steps that calls share write, and what that does to the bank in the slots. They are those of a stop, a run and a latched fault.
 -- Assumes nothing.
 use mathlib.Core.Path.{_≡_, _∙_, refl, sym, ap}
 use mathlib.Core.Bool.{Bool, true, false, not}

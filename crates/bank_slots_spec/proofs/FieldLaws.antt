@@ -1,5 +1,5 @@
--- Each field of a bank in its slots: what is written for it is read back and is such as the library writes, what is read fits, and slots that
--- the library wrote are what it writes for what is read.
+-- Each field of a bank in its slots. What is written for it is read back, and is such as the library writes. What is read fits. If the library wrote
+-- slots, they are what it writes for what is read from them.
 -- Assumes nothing.
 use mathlib.Core.Path.{_≡_, _∙_, refl, sym, ap, subst}
 use mathlib.Core.Bool.{Bool, true, false, true≢false}

@@ -1,4 +1,4 @@
--- Slots written one after another: what they hold then, for any list of values.
+-- Slots that are written one after another: what they hold then, for any list of values.
 -- Assumes nothing.
 use mathlib.Core.Path.{_≡_, _∙_, refl, sym, ap}
 use mathlib.Core.List.{List, [], _∷_, _++_, append-nil}

@@ -1,4 +1,4 @@
--- What is equal with one lane hidden has as many slots, and is equal in every slot that does not tell of that lane: answers, and a bank's state.
+-- Answers and states that are equal with one lane hidden have as many slots. They are equal in every slot that says nothing of that lane.
 -- Assumes nothing.
 use mathlib.Core.Path.{_≡_, _∙_, refl, sym, ap, subst}
 use mathlib.Core.List.{List, [], _∷_, _++_}

@@ -1,4 +1,5 @@
--- What the calls that only look at the bank in the slots owe, and the taking of its replies: where a slice has another length, and where all fit.
+-- What the calls that only look at the bank in the slots promise, and the taking of its replies. The laws are for a slice of another length, and for
+-- slices that all fit.
 -- Assumes nothing.
 use mathlib.Core.Path.{_≡_, _∙_, refl, sym, ap}
 use mathlib.Core.Bool.{Bool, true, false, not}

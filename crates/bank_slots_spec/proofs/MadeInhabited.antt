@@ -1,4 +1,4 @@
--- Which lists of exported calls are alike but in one lane's captures: those with any calls, whether or not slices fit, and with any window and mask of
+-- Lists of exported calls that differ only in one lane's captures may have any calls, whether or not slices fit. They may have any window and mask of
 -- that lane, as they stand in the slices. A definition that left some of these out would not prove this.
 -- Assumes nothing.
 use mathlib.Core.Path.{_≡_, refl, ap, subst}
@@ -43,7 +43,8 @@ made-each : {R : Call → Call → Type 0} (fits : Bool) (out : List ℕ) {cs cs
 made-each fits out none-left = both-end
 made-each fits out (one-more h rest) = both-more h (made-each fits out rest)
 
--- of each of the four lanes: two lists in which all samples of its window and its mask differ, with a refused call, looks and a lending between them
+-- For each of the four lanes: two lists in which its mask and all samples of its window differ. A refused call, looks and a lending are among the
+-- calls.
 pub made-example : (lane : ℕ) (l : lane < 4) (fits : Bool) (out : List ℕ) (b : Buffers)
     → MadeAlike lane (fromC fits out (listAt 4 lane l b true 0)) (fromC fits out (listAt 4 lane l b true 2))
 made-example lane l fits out b = made-each fits out (example-alike 4 lane l b)
@@ -67,8 +68,8 @@ four-but d f g lane h (suc (suc (suc (suc i)))) ne = refl
 four-same : {A : Type 0} (f g : ℕ → A) → ((k : ℕ) → k < 4 → f k ≡ g k) → four f ≡ four g
 four-same f g h = λ j. h 0 (omega arith) j ∷ h 1 (omega arith) j ∷ h 2 (omega arith) j ∷ h 3 (omega arith) j ∷ []
 
--- two services from C, whose slices of the hardware's answers differ in the lane's capture and mask alone, and whose samples in the lane's window,
--- whatever they hold there
+-- Two services from C. Their slices of the hardware's answers differ only in the lane's capture and mask. Their samples differ only in the lane's
+-- window, whatever it holds.
 module _ (lane : ℕ) (l : lane < 4) (now : ℕ) (xs xs′ s s′ : List ℕ)
     (h : (i : ℕ) → (i ≡ 4 + lane → ⊥) → (i ≡ 8 + lane → ⊥) → getD xs i 0 ≡ getD xs′ i 0)
     (el : length s ≡ length s′)

@@ -1,4 +1,4 @@
--- Steps on the slots of a bank: rows written, one step after another, and what is left by a step that a test picks.
+-- Steps on the slots of a bank: rows that are written, one step after another, and what a step leaves if a test picks it.
 -- Assumes nothing.
 use mathlib.Core.Path.{_≡_, _∙_, refl, sym, ap, subst}
 use mathlib.Core.Bool.{Bool, true, false}

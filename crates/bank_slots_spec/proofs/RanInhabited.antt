@@ -1,5 +1,5 @@
--- Lists of exported calls that run: on the slots of a bank each call leaves those of the bank after it, and one whose slices do not fit leaves any
--- slots. A definition of such lists that left some of these out would not prove this.
+-- Lists of exported calls that run. On the slots of a bank, each call leaves those of the bank after it. A call whose slices do not fit leaves any
+-- slots as they were. A definition of such lists that left some of these out would not prove this.
 -- Assumes nothing.
 use mathlib.Core.Path.{_≡_, _∙_, refl, sym, ap}
 use mathlib.Core.Bool.{Bool, true, false}
@@ -156,8 +156,8 @@ module _ (t : Timing) (h : Ticks t) (b : Buffers) where
         replies = n .replies;
       }
 
-  -- what runs from the slots of a new bank: a call that does not fit, the one that sets it to bidirectional, a refused call, a lending, a look and
-  -- a taking of the replies that are not held
+  -- What runs from the slots of a new bank: a call that does not fit, the call that sets it to bidirectional, and a refused call. Then come a
+  -- lending, a look, and a taking of replies that are not held.
   abbrev calls : Buffers → List Made
   calls b′ =
       record { fits = false; call = command-stop; out = [] }

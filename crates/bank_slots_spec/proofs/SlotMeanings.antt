@@ -1,5 +1,5 @@
--- What a run's slots and an order's number mean to a host: an index above 1 is spent however large, and an order to exchange names the buffer that the
--- lane sends from once it has taken it.
+-- What a run's slots and an order's number mean to a host. If a run's index is above 1, the run is spent, however large the index is. An order to
+-- exchange names a buffer. Once the lane has taken it, the lane sends from it.
 -- Assumes nothing.
 use mathlib.Core.Path.{_≡_, _∙_, refl, sym, ap}
 use mathlib.Core.Bool.{Bool, true, false, not}
@@ -18,12 +18,12 @@ use Rattle.bank_slots_spec.specs.Load.{runFrom}
 use Rattle.bank_slots_spec.specs.Store.{bit}
 use Rattle.bank_slots_spec.specs.Outs.{codeGiven}
 
--- of an argument and of the state alike: no command is left, whatever the other slots hold
+-- For an argument and for the state: no command is left, whatever the other slots hold.
 pub spent-above : (repeats k : ℕ) (m : ℕ → ℕ) → 1 < m (k + 2) → nextValue repeats (runFrom k m) .command ≡ none
 unfolding nextValue
 spent-above repeats k m h = sym (ap (λ (n : Next). n .command) (off _ _ (le-ltb (min (m (k + 2)) 255) 2 (omega arith)) refl))
 
--- the marks of all lanes turn when a frame set starts: the buffer that the order names is then the one that the lane sends from
+-- When a frame set starts, the marks of all lanes turn. Then the lane sends from the buffer that the order names.
 pub exchange-named : (n : ℕ) (inSecond : List Bool) (lane : ℕ) → lane < n
     → codeGiven inSecond (exchange-buffer lane) ≡ 8 + lane + 4 * bit (getD (turnMarks n n inSecond) lane false)
 exchange-named n inSecond lane h =

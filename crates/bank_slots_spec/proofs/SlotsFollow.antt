@@ -1,5 +1,5 @@
--- Lists of exported calls from slots that the library wrote: every slot after each call, which of them one lane's captures can change, and what a
--- service stores.
+-- Lists of exported calls from slots that the library wrote. They say what every slot is after each call, which slots one lane's captures can change,
+-- and what a service stores.
 -- Assumes nothing.
 use mathlib.Core.Path.{_≡_, _∙_, refl, sym, ap, subst}
 use mathlib.Core.Bool.{Bool, true, false}

@@ -1,5 +1,5 @@
--- Demand 3 of lists of exported calls on one state slice: each call shows what the bank's own call does, looks change nothing, and one lane's
--- captures, or that it has none, change nothing but that lane's replies and reply counts.
+-- Demand 3 for lists of exported calls on one state slice. Each call shows what the bank's own call does. Looks change nothing. One lane's captures,
+-- or that it has none, change only that lane's replies and reply counts.
 -- Assumes nothing.
 use mathlib.Core.Path.{_≡_, _∙_, refl, sym, ap, subst}
 use mathlib.Core.Bool.{Bool, true, false}
@@ -49,7 +49,7 @@ traced (one-more {ys = ys} {b′ = b′} {m = m} {ms = ms} c e o n w rest) =
 
 -- ---- the slots that one call finds and leaves
 
--- those that call m finds, behind the calls ms, hold the bank that ms leave, and those that it leaves hold the bank after its step
+-- The slots that call m finds, behind the calls ms, hold the bank that ms leave. The slots that m leaves hold the bank after its step.
 abbrev Holds : (ms : List Made) (m : Made) (rest : List Made) {xs : List ℕ} {b : Buffers} {rs : List Shown} → Ran xs b (ms ++ (m ∷ rest)) rs → Type 0
 Holds ms m rest {xs} {b} p =
     (load (getD (xs ∷ leaves p) (length ms) []) ≡ madeRun (stateAt xs b) ms .bank)

@@ -1,4 +1,4 @@
--- A bank that the library's types hold is read back from its slots, slots that the library wrote are those of the bank that they hold, and so a
+-- If the library's types hold a bank, it is read back from its slots. If the library wrote slots, they are those of the bank that they hold. So a
 -- step on such slots leaves the slots of the bank after the step.
 -- Assumes nothing.
 use mathlib.Core.Path.{_≡_, _∙_, refl, sym, ap, subst}

@@ -1,4 +1,5 @@
--- Which slots two lists of exported calls are compared in: all but those that tell of the one lane. A claim that left more out would not prove this.
+-- The slots in which two lists of exported calls are compared: all except those that say something of the one lane. A claim that left more out would
+-- not prove this.
 -- Assumes nothing.
 use mathlib.Core.Path.{_≡_, sym}
 use mathlib.Core.Bool.{Bool, true, false, false≢true}
