@@ -17,12 +17,12 @@ abbrev pub motorCommandOf : FrameCommand → Option MotorCommand
 motorCommandOf FrameCommand·.None = none
 motorCommandOf (FrameCommand·.Command m v) = some (record { motor = m; command = v })
 
--- a command is for one of the four lanes
+-- The command is for one of the four lanes.
 abbrev pub OnLane : FrameCommand → Type 0
 OnLane FrameCommand·.None = Unit
 OnLane (FrameCommand·.Command m v) = m < 4
 
--- the same values and telemetry lane, and the request that is carried
+-- The code and the definition have the same values, telemetry lane and carried request.
 pub record Sets (r : FrameSet) (c : Core) (m : Option MotorCommand) : Type 0 where
   pub values : r .values ≡ frameSet 4 c m .values
   pub lane : laneOf (r .«telemetry_lane») ≡ frameSet 4 c m .telemetryLane

@@ -1,6 +1,6 @@
-// Ported from crates/ferrowasp-stm32-critical/src/dshot_bank.rs of Eirik2020/ferro-wasp at commit 9cb8aca1a6, Copyright (c) 2026 Kaldstrand,
-// under the Apache License, Version 2.0 (see NOTICE). Changed: ported to Rattle, on a state in lent slots, with a promise for each call; each
-// refuses slices of other lengths and a lane above 3.
+// Ported from crates/ferrowasp-stm32-critical/src/dshot_bank.rs of Eirik2020/ferro-wasp at commit 9cb8aca1a6, Copyright (c) 2026 Kaldstrand, under
+// the Apache License, Version 2.0 (see NOTICE). Changed: ported to Rattle, on a state in lent slots, with a promise for each call. Each call refuses
+// slices of other lengths and a lane above 3.
 //
 // The calls that make a bank and command it: demands, runs of special commands, and telemetry requests.
 
@@ -57,12 +57,12 @@ ghost use Rattle.bank_slots_spec.specs.Outs.{motorSlots, outAfter};
 ghost use Rattle.bank_slots_spec.specs.Arguments.{runGiven};
 ghost use Rattle.bank_slots_spec.specs.Parts.{demanded, queued};
 
-// The stored reply of a lane of which no window has been read.
+// The stored reply of a lane whose window was never read.
 const STORED_NO_REPLY: u16 = REFUSED + NO_REPLY as u16;
 
 // ---- a new bank
 
-// A new bank of a timing: the first lent buffer is current, the second spare.
+// Makes a new bank with a timing. The first lent buffer is current, and the second is spare.
 pub fn from_lanes(timing: &[u16], bank: &mut [u16]) -> u32
     ensures { λ r. ⌜ r ≡ (if fit (now (bank .entry)) (sized 4 (now (timing .entry))) then 0 else wrongLength) ⌝ }
     ensures { λ r. ⌜ now (bank .exit) ≡ (if fit (now (bank .entry)) (sized 4 (now (timing .entry))) then store (fromLanes 4 (timingAt (at (now (timing .entry))))) else now (bank .entry)) ⌝ }
@@ -85,7 +85,8 @@ pub fn from_lanes(timing: &[u16], bank: &mut [u16]) -> u32
     0
 }
 
-// Switches to bidirectional DShot: meant for before the first frame, and not refused later. Refused if a lane cannot receive replies.
+// Switches to bidirectional DShot. It is meant for the time before the first frame, but a later call is not refused. Refused if a lane cannot receive
+// replies.
 pub fn enable_bidirectional(bank: &mut [u16], receives_replies: bool) -> u32
     ensures { λ r. ⌜ ((b : Buffers) → r ≡ number (answerOf (fit (now (bank .entry)) true) (stateAt (now (bank .entry)) b) (Call.enable-bidirectional «receives_replies»))) ⌝ }
     ensures { λ r. ⌜ ((b : Buffers) → Called (fit (now (bank .entry)) true) (Call.enable-bidirectional «receives_replies») b (now (bank .entry)) (now (bank .exit)) r) ⌝ }
@@ -130,7 +131,7 @@ fn demand(bank: &mut [u16], commands: &[u16], now_ms: u64, lease_duration_ms: u3
     ensures { λ r. ⌜ Moves (onCore (demanded (now (commands .entry)) «now_ms» «lease_duration_ms»)) (now (bank .entry)) (now (bank .exit)) ⌝ }
 {
     let values = dshot::throttles_to_dshot([commands[0], commands[1], commands[2], commands[3]]);
-    // In one store: a service reads them in one load, which would wait for several.
+    // The four values are stored at once. A service reads them in one load, which would have to wait for several stores.
     put_long(
         bank,
         VALUES,
@@ -140,7 +141,7 @@ fn demand(bank: &mut [u16], commands: &[u16], now_ms: u64, lease_duration_ms: u3
     put_long(bank, LEASE_OVER, lease_duration_ms as u64 + 1);
 }
 
-// The throttles of the four motors, each up to 2000, and how long they are in force.
+// Requests the throttles of the four motors, each up to 2000, for a lease.
 pub fn command_throttles(
     bank: &mut [u16],
     commands: &[u16],
@@ -189,7 +190,7 @@ fn queue(bank: &mut [u16], motor: usize, sequence: &[u16])
     put_run(bank, motor, run_from(sequence, 0));
 }
 
-// Queues a run of special-command frames for one motor, such as a spin direction change and save: the run in four slots.
+// Queues a run of special-command frames for one motor, such as a spin direction change and save. The run takes four slots.
 //
 // Refused unless every motor is stopped with no command lease, so a command frame never replaces a throttle frame on a spinning motor.
 pub fn command_special(bank: &mut [u16], motor: usize, sequence: &[u16]) -> u32
@@ -220,7 +221,8 @@ pub fn command_special(bank: &mut [u16], motor: usize, sequence: &[u16]) -> u32
 
 // ---- telemetry requests
 
-// Requests legacy UART telemetry from exactly one motor in the next ordinary frame that starts; one that sends a special command leaves it.
+// Requests legacy UART telemetry from exactly one motor in the next frame that starts without a special command. A frame with a special command
+// leaves the request.
 pub fn request_telemetry(bank: &mut [u16], motor: usize) -> u32
     ensures { λ r. ⌜ ((b : Buffers) → r ≡ number (answerOf (fit (now (bank .entry)) true) (stateAt (now (bank .entry)) b) (Call.request-telemetry motor))) ⌝ }
     ensures { λ r. ⌜ ((b : Buffers) → Called (fit (now (bank .entry)) true) (Call.request-telemetry motor) b (now (bank .entry)) (now (bank .exit)) r) ⌝ }
@@ -253,7 +255,7 @@ pub fn cancel_telemetry_request(bank: &mut [u16]) -> u32
     0
 }
 
-// Two slots for a motor or none: 1 and the lane, or 0 and 0.
+// A motor in two slots: 1 and the lane. If there is none, 0 and 0.
 fn put_choice(slot: u16, out: &mut [u16])
     requires { ⌜ length (now out) ≡ 2 ⌝ }
     ensures { λ r. ⌜ now (out .exit) ≡ motorSlots (choice slot) ⌝ }

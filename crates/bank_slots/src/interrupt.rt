@@ -1,6 +1,6 @@
-// Ported from crates/ferrowasp-stm32-critical/src/dshot_bank.rs of Eirik2020/ferro-wasp at commit 9cb8aca1a6, Copyright (c) 2026 Kaldstrand,
-// under the Apache License, Version 2.0 (see NOTICE). Changed: ported to Rattle, on a state in lent slots, with a promise for the call, which
-// refuses slices of other lengths and a lane above 3.
+// Ported from crates/ferrowasp-stm32-critical/src/dshot_bank.rs of Eirik2020/ferro-wasp at commit 9cb8aca1a6, Copyright (c) 2026 Kaldstrand, under
+// the Apache License, Version 2.0 (see NOTICE). Changed: ported to Rattle, on a state in lent slots, with a promise for the call. The call refuses
+// slices of other lengths and a lane above 3.
 //
 // The DMA interrupts of a bank.
 
@@ -108,7 +108,7 @@ fn opens_window(state: &[u16]) -> bool
     false
 }
 
-// The event and seven slots for orders, of which `count` are given.
+// The event, and seven slots for orders. `count` of them are given.
 fn tell(out: &mut [u16], event: u16, count: u16, orders: [u16; 7])
     requires { ⌜ length (now out) ≡ 9 ⌝ }
     ensures { λ r. ⌜ now (out .exit) ≡ event ∷ count ∷ orders ⌝ }
@@ -124,7 +124,7 @@ fn tell(out: &mut [u16], event: u16, count: u16, orders: [u16; 7])
     out[8] = orders[6];
 }
 
-// The lane's pause alone.
+// Only the lane's pause.
 fn tell_paused(out: &mut [u16], event: u16, lane: usize)
     requires { ⌜ (length (now out) ≡ 9) × (lane < 4) ⌝ }
     ensures { λ r. ⌜ now (out .exit) ≡ event ∷ 1 ∷ (48 + lane) ∷ 0 ∷ 0 ∷ 0 ∷ 0 ∷ 0 ∷ 0 ∷ [] ⌝ }
@@ -150,7 +150,7 @@ fn tell_order(out: &mut [u16], lane: usize, order: u16)
     );
 }
 
-// A latched fault, right after the lane's pause.
+// The lane's pause, and then a latched fault.
 fn latched(state: &mut [u16], lane: usize, spurious: bool, event: u16, out: &mut [u16])
     requires { ⌜ (length (now state) ≡ slots) × (length (now out) ≡ 9) × (lane < 4) ⌝ }
     ensures { λ r. ⌜ ((e : Spec.InterruptEvent) → interruptEvent e ≡ event → Handles (Spec.latched 4 lane true false true true spurious e []) (now (state .entry)) (now (state .exit)) (now (out .exit))) ⌝ }
@@ -172,7 +172,7 @@ fn latched(state: &mut [u16], lane: usize, spurious: bool, event: u16, out: &mut
     );
 }
 
-// A latched fault after lanes that could not turn around.
+// The lane's pause, the order to turn around, and then a latched fault: a lane could not turn around.
 fn latched_turning(state: &mut [u16], lane: usize, order: u16, out: &mut [u16])
     requires { ⌜ (length (now state) ≡ slots) × (length (now out) ≡ 9) × (lane < 4) ⌝ }
     ensures { λ r. ⌜ (order ≡ 56 → Handles (Spec.latched 4 lane true false true true false Spec.faulted (begin-receive ∷ [])) (now (state .entry)) (now (state .exit)) (now (out .exit))) ⌝ }
@@ -195,7 +195,7 @@ fn latched_turning(state: &mut [u16], lane: usize, order: u16, out: &mut [u16])
     );
 }
 
-// A lane has completed. After the last lane of a frame set, the receive window opens or the set is done; after the last window, it is done.
+// A lane has completed. After the last lane of a transmission, the receive window opens or the set is done. After the last window, the set is done.
 fn after_lane(state: &mut [u16], lane: usize, turned: bool, turned_back: bool, out: &mut [u16])
     requires { ⌜ (length (now state) ≡ slots) × (length (now out) ≡ 9) × (lane < 4) ⌝ }
     ensures { λ r. ⌜ Handles (afterLane 4 lane true false turned «turned_back») (now (state .entry)) (now (state .exit)) (now (out .exit)) ⌝ }
@@ -262,8 +262,8 @@ fn handle(
     after_lane(state, lane, turned, turned_back, out);
 }
 
-// `turned`: whether every lane turned to receive, and `turned_back` whether every lane turned back, where it is asked for. The answer takes nine
-// slots: the event, how many orders, and the orders.
+// `turned` says whether every lane turned to receive, and `turned_back` whether every lane turned back. Each counts only if the Rust would ask for
+// it. The answer takes nine slots: the event, the number of orders, and the orders.
 pub fn on_dma_interrupt(
     bank: &mut [u16],
     motor: usize,

@@ -1,5 +1,5 @@
-// Added: the calls of a bank on its state in lent slots, for hosts that keep it so. Each does to the bank in the slots what the call of the crate
-// `dshot_bank` does to a bank that is handed to it and back; only the slots that change are written.
+// Added: the calls of a bank on its state in lent slots, for hosts that keep it in slots. A call of the crate `dshot_bank` takes a bank and hands it
+// back. The call here does the same to the bank in the slots. It writes only the slots that change.
 
 // Numbers in slots.
 mod memory;
@@ -31,13 +31,13 @@ pub mod service;
 // The slots of a state.
 pub const SLOTS: usize = 97;
 
-// The slots of what the hardware answered: for each lane whether it took its buffer, whether it has a capture, and its mask.
+// The slots of the hardware's answers: for each lane whether it took its buffer, whether it has a capture, and its mask.
 pub const LANES_SLOTS: usize = 12;
 
-// The slots of a service's answer: the event, how many orders, nine for them, and the first duties.
+// The slots of a service's answer: the event, the number of orders, nine for the orders, and the first duties.
 pub const SERVICE_SLOTS: usize = 15;
 
-// The slots of an interrupt's answer: the event, how many orders, and seven for them.
+// The slots of an interrupt's answer: the event, the number of orders, and seven for the orders.
 pub const INTERRUPT_SLOTS: usize = 9;
 
 // The slots of the counts, of the replies' counts, and of the replies.
@@ -47,7 +47,7 @@ pub const REPLY_STATS_SLOTS: usize = 24;
 
 pub const REPLIES_SLOTS: usize = 17;
 
-// Where each field lies: a number of 32 bits takes two slots from there, one of 64 bits four.
+// Where each field lies. A number of 32 bits takes two slots from its place on, and one of 64 bits takes four.
 pub(crate) const VALUES: usize = 4;
 
 pub(crate) const LEASE_STARTED: usize = 8;
@@ -58,7 +58,7 @@ pub(crate) const REQUEST: usize = 16;
 
 pub(crate) const REQUEST_SENT: usize = 17;
 
-// A motor or none, the two commands, the index and the repeats left.
+// A run: its motor or none, the two commands, the index, and the repeats left.
 pub(crate) const RUN: usize = 18;
 
 pub(crate) const BUSY: usize = 23;

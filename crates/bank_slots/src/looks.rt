@@ -1,6 +1,6 @@
-// Ported from crates/ferrowasp-stm32-critical/src/dshot_bank.rs of Eirik2020/ferro-wasp at commit 9cb8aca1a6, Copyright (c) 2026 Kaldstrand,
-// under the Apache License, Version 2.0 (see NOTICE). Changed: ported to Rattle, on a state in lent slots, with a promise for each call, which
-// refuses slices of other lengths; the view is added.
+// Ported from crates/ferrowasp-stm32-critical/src/dshot_bank.rs of Eirik2020/ferro-wasp at commit 9cb8aca1a6, Copyright (c) 2026 Kaldstrand, under
+// the Apache License, Version 2.0 (see NOTICE). Changed: ported to Rattle, on a state in lent slots, with a promise for each call. Each call refuses
+// slices of other lengths. The view is added.
 //
 // The calls that only look at a bank, the taking of its replies, and the view of the sequence that a lane is sending.
 
@@ -50,7 +50,7 @@ ghost use Rattle.bank_slots_spec.specs.Parts.{slotRows};
 
 // ---- flags and values
 
-// The flag in a slot of the bank, told in one slot: 0 or 1.
+// Copies the flag in a slot of the bank into one slot, as 0 or 1.
 fn look_flag(bank: &[u16], k: usize, out: &mut [u16]) -> u32
     requires { ⌜ k < slots ⌝ }
     ensures { λ r. ⌜ r ≡ (if fit (now (bank .entry)) (sized 1 (now (out .entry))) then 0 else wrongLength) ⌝ }
@@ -134,7 +134,7 @@ pub fn stats(bank: &[u16], out: &mut [u16]) -> u32
     if out.len() != STATS_SLOTS {
         return WRONG_LENGTH;
     }
-    // They stand in the state as they are told.
+    // The state holds the counts in the same slots as the answer.
     copy(&bank[FRAMES_STARTED..REPLIES], out);
     0
 }
@@ -193,7 +193,7 @@ fn stored(kind: u16, carried: u32) -> ReplyRead
         }),
         7 => ReplyRead::Reply(DshotReply::StateEvent { value: low }),
         8 => ReplyRead::Reply(DshotReply::ExtendedTelemetryEnabled),
-        // A refusal is 16 and its number.
+        // The kind of a refusal is 16 + its number.
         24 => ReplyRead::Refused(DshotReplyError::Overlong),
         25 => ReplyRead::Refused(DshotReplyError::InvalidSymbol),
         26 => ReplyRead::Refused(DshotReplyError::Checksum),
@@ -202,7 +202,7 @@ fn stored(kind: u16, carried: u32) -> ReplyRead
     }
 }
 
-// A lane's reply in the four slots from `k`: 0, the kind and the number, or the refusal's number and zeros.
+// A lane's reply in the four slots from `k` on: 0, the kind and the number. If it is refused, the refusal's number and zeros.
 fn put_reply(out: &mut [u16], k: usize, read: ReplyRead)
     requires { ⌜ k + 3 < length (now out) ⌝ }
     ensures { λ r. ⌜ now (out .exit) ≡ write (slotRows k (replySlots (replyAnswer read))) (now (out .entry)) ⌝ }
@@ -222,7 +222,7 @@ fn put_reply(out: &mut [u16], k: usize, read: ReplyRead)
     }
 }
 
-// What is handed out of the lane whose slots begin at `from`: no reply where none are held, so that none reads as a rotor at rest.
+// What is handed out of the lane whose slots begin at `from`. If no replies are held, it is no reply, so that no lane reads as a rotor at rest.
 fn put_lane(bank: &[u16], held: bool, from: usize, out: &mut [u16], to: usize)
     requires { ⌜ (from + 2 < length (now bank)) × (to + 3 < length (now out)) ⌝ }
     ensures { λ r. ⌜ now (out .exit) ≡ write (slotRows to (replySlots (if held then reply (at (now (bank .entry)) from) (word (from + 1) (at (now (bank .entry)))) else refused noReply))) (now (out .entry)) ⌝ }

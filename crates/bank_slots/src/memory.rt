@@ -8,7 +8,7 @@ ghost use Rattle.bank_slots_spec.specs.Memory.{at, word, long, write, wordRows,
 ghost use Rattle.bank_slots_spec.specs.Store.{bit};
 ghost use Rattle.bank_slots_spec.specs.Load as Load;
 
-// The flag in a slot: 0 is no, any other number yes.
+// The flag in a slot: 0 means no, any other number means yes.
 pub(crate) fn flag(slot: u16) -> bool
     ensures { λ r. ⌜ r ≡ Load.flag slot ⌝ }
 {
@@ -65,7 +65,7 @@ pub(crate) fn put_long(state: &mut [u16], k: usize, n: u64)
     state[k + 3] = (n / 65536 / 65536 / 65536 % 65536) as u16;
 }
 
-// One more in a count, around 2^32.
+// Adds one to a count, which wraps at 2^32.
 pub(crate) fn bump(state: &mut [u16], k: usize)
     requires { ⌜ k + 1 < length (now state) ⌝ }
     ensures { λ r. ⌜ now (state .exit) ≡ write (wordRows k (wrappingAdd (word k (at (now (state .entry)))))) (now (state .entry)) ⌝ }
@@ -74,7 +74,7 @@ pub(crate) fn bump(state: &mut [u16], k: usize)
     put_word(state, k, more);
 }
 
-// 0 in every slot.
+// Writes 0 into every slot.
 pub(crate) fn zero(out: &mut [u16])
     ensures { λ r. ⌜ now (out .exit) ≡ replicate (length (now (out .entry))) 0 ⌝ }
 {

@@ -19,13 +19,13 @@ pub(crate) const INTERRUPT_FAULT: u16 = 1;
 
 pub(crate) const SPURIOUS_EVENT: u16 = 2;
 
-// A stored refusal is a kind above those of readings: this and its number.
+// The kind of a stored refusal is this + its number. It is above the kinds of readings.
 pub(crate) const REFUSED: u16 = 16;
 
-// The orders: eight times the number of the kind, to which a lane is added where the order is for one.
+// The orders: 8 x the kind. If the order is for one lane, the lane is added.
 pub(crate) const EXCHANGE_BUFFER: u16 = 8 * 1;
 
-// Added to an order to exchange that gives the lane the second buffer.
+// Added to an order to exchange if it gives the lane the second buffer.
 pub(crate) const SECOND: u16 = 4;
 
 pub(crate) const START_DMA: u16 = 8 * 2;
@@ -42,11 +42,11 @@ pub(crate) const BEGIN_RECEIVE: u16 = 8 * 7;
 
 pub(crate) const END_RECEIVE: u16 = 8 * 8;
 
-// ---- the orders of a service, and zeros up to nine
+// ---- the orders of a service, with zeros up to nine
 
 pub(crate) const NO_ORDERS: [u16; 9] = [0, 0, 0, 0, 0, 0, 0, 0, 0];
 
-// The orders of a latched fault: the outputs low, and every stream paused.
+// The orders of a latched fault: the outputs low, then every stream paused.
 pub(crate) const LATCH_ORDERS: [u16; 9] = [
     FORCE_OUTPUTS_LOW,
     PAUSE_AND_CLEAR,
@@ -59,7 +59,7 @@ pub(crate) const LATCH_ORDERS: [u16; 9] = [
     0,
 ];
 
-// Those of an exchange that is refused at a lane: the exchanges up to it, the outputs low, and every stream paused.
+// The orders if a lane refuses its buffer: the exchanges up to that lane, the outputs low, and every stream paused.
 pub(crate) fn refused_by_0(a: u16) -> [u16; 9]
     ensures { λ r. ⌜ r ≡ a ∷ 40 ∷ 48 ∷ 49 ∷ 50 ∷ 51 ∷ 0 ∷ 0 ∷ 0 ∷ [] ⌝ }
 {

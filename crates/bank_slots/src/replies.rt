@@ -1,6 +1,5 @@
-// Ported from crates/ferrowasp-stm32-critical/src/dshot_bank.rs of Eirik2020/ferro-wasp at commit 9cb8aca1a6, Copyright (c) 2026 Kaldstrand,
-// under the Apache License, Version 2.0 (see NOTICE). Changed: ported to Rattle, on a state in lent slots; a lane's window is a part of one
-// buffer.
+// Ported from crates/ferrowasp-stm32-critical/src/dshot_bank.rs of Eirik2020/ferro-wasp at commit 9cb8aca1a6, Copyright (c) 2026 Kaldstrand, under
+// the Apache License, Version 2.0 (see NOTICE). Changed: ported to Rattle, on a state in lent slots. A lane's window is a part of one buffer.
 //
 // The replies of the last receive window, and their counts. A lane takes nine slots: the reply's kind and number, and three counts.
 
@@ -33,7 +32,7 @@ ghost use Rattle.bank_slots_spec.specs.Arguments.{present, masks};
 ghost use Rattle.bank_slots_spec.specs.Load.{laneFrom};
 ghost use Rattle.bank_slots_spec.specs.Parts.{withReplies, windowsRead};
 
-// The kind under which a reply is stored: that of its reading, or one of a refusal.
+// The kind under which a reply is stored: that of its reading, or that of its refusal.
 fn stored_kind(read: ReplyRead) -> u16
     ensures { λ r. ⌜ r ≡ replyKind (replyAnswer read) ⌝ }
 {
@@ -43,7 +42,7 @@ fn stored_kind(read: ReplyRead) -> u16
     }
 }
 
-// Its number.
+// The number under which a reply is stored.
 fn stored_number(read: ReplyRead) -> u32
     ensures { λ r. ⌜ r ≡ replyNumber (replyAnswer read) ⌝ }
 {
@@ -53,7 +52,7 @@ fn stored_number(read: ReplyRead) -> u32
     }
 }
 
-// A lane's reply and its counts into the nine slots from `k`.
+// Writes a lane's reply and its counts into the nine slots from `k` on.
 fn put_lane(state: &mut [u16], k: usize, read: ReplyRead, counted: LaneReply)
     requires { ⌜ k + 8 < length (now state) ⌝ }
     ensures { λ r. ⌜ now (state .exit) ≡ write (laneRows k (record { reply = replyAnswer read; valid = counted .valid; invalid = counted .invalid; consecutiveInvalid = counted .«consecutive_invalid» })) (now (state .entry)) ⌝ }
@@ -65,7 +64,7 @@ fn put_lane(state: &mut [u16], k: usize, read: ReplyRead, counted: LaneReply)
     put_word(state, k + 7, counted.consecutive_invalid);
 }
 
-// Counts a reply of the lane whose slots begin at `k`. What was stored before is not looked at.
+// Counts a reply of the lane whose slots begin at `k`. It does not look at the reply that was stored before.
 fn count_reply(state: &mut [u16], k: usize, read: ReplyRead)
     requires { ⌜ k + 8 < length (now state) ⌝ }
     ensures { λ r. ⌜ now (state .exit) ≡ write (laneRows k (countReply (replyAnswer read) (laneFrom k (at (now (state .entry)))))) (now (state .entry)) ⌝ }
@@ -79,7 +78,7 @@ fn count_reply(state: &mut [u16], k: usize, read: ReplyRead)
     put_lane(state, k, read, before.counting(StoredReply::of(read)));
 }
 
-// Reads and counts the window of a lane whose slots begin at `k`. Extended telemetry is not enabled yet, so every value but its acknowledgement is
+// Reads and counts the window of a lane whose slots begin at `k`. Extended telemetry is not enabled yet, so every value except its acknowledgement is
 // read as eRPM.
 fn decode_lane(state: &mut [u16], k: usize, lane: usize, lanes: &[u16], captures: &[u16])
     requires { ⌜ (k + 8 < length (now state)) × (lane < 4) × (length (now lanes) ≡ 12) × (length (now captures) ≡ 160 * 4) ⌝ }

@@ -1,6 +1,6 @@
-// Ported from crates/ferrowasp-stm32-critical/src/dshot_bank.rs of Eirik2020/ferro-wasp at commit 9cb8aca1a6, Copyright (c) 2026 Kaldstrand,
-// under the Apache License, Version 2.0 (see NOTICE). Changed: ported to Rattle, on a state in lent slots; two lent buffers and a mark per lane
-// stand for the exchanged buffers, so that no spare can be missing.
+// Ported from crates/ferrowasp-stm32-critical/src/dshot_bank.rs of Eirik2020/ferro-wasp at commit 9cb8aca1a6, Copyright (c) 2026 Kaldstrand, under
+// the Apache License, Version 2.0 (see NOTICE). Changed: ported to Rattle, on a state in lent slots. Two lent buffers and a mark per lane stand for
+// the exchanged buffers, so no spare can be missing.
 //
 // Sending a frame set.
 
@@ -78,7 +78,7 @@ pub(crate) enum FrameCommand {
     Command(usize, u16),
 }
 
-// What is sent to each lane, and whether it is an ordinary frame, which carries the pending telemetry request.
+// What is sent to each lane, and whether it is an ordinary frame. An ordinary frame carries the pending telemetry request.
 pub(crate) struct FrameSet {
     pub values: MotorValues,
     pub telemetry_lane: TelemetryLane,
@@ -87,7 +87,7 @@ pub(crate) struct FrameSet {
 
 // ---- the run of commands
 
-// The next command of a run, which is stepped; a spent run is cleared.
+// Takes the next command of a run, and steps the run. A spent run is cleared.
 fn step_run(state: &mut [u16]) -> FrameCommand
     requires { ⌜ (length (now state) ≡ slots) × (at (now state) Places.RUN ≡ 0 → ⊥) ⌝ }
     ensures { λ r. ⌜ OnLane r ⌝ }
@@ -110,7 +110,7 @@ fn step_run(state: &mut [u16]) -> FrameCommand
     }
 }
 
-// The next special-command frame; none when there is none or a throttle demand has cancelled it.
+// The next special-command frame. If there is none, or a throttle demand has cancelled it, the answer is none.
 fn next_command_frame(state: &mut [u16]) -> FrameCommand
     requires { ⌜ length (now state) ≡ slots ⌝ }
     ensures { λ r. ⌜ OnLane r ⌝ }
@@ -219,7 +219,7 @@ fn marks_at(state: &[u16]) -> LaneFlags
 
 // ---- the exchange
 
-// How many lanes took their buffer before the first that did not.
+// How many lanes took their buffer before the first lane that did not.
 fn lanes_taken(lanes: &[u16]) -> usize
     requires { ⌜ length (now lanes) ≡ 12 ⌝ }
     ensures { λ r. ⌜ r ≡ position not (taken (now (lanes .entry))) ⌝ }
@@ -249,7 +249,7 @@ fn turn_mark(state: &mut [u16], k: usize, turned: bool)
     }
 }
 
-// The marks of the first lanes turned: what they sent is spare, and their spare is sent.
+// Turns the marks of the first lanes: what they sent is now spare, and their spare is sent.
 fn turn_marks(state: &mut [u16], turned: usize)
     requires { ⌜ length (now state) ≡ slots ⌝ }
     ensures { λ r. ⌜ Moves (onCore (marksTurned turned)) (now (state .entry)) (now (state .exit)) ⌝ }
@@ -260,7 +260,7 @@ fn turn_marks(state: &mut [u16], turned: usize)
     turn_mark(state, IN_SECOND + 3, 3 < turned);
 }
 
-// A lane refuses its buffer: those before it have turned.
+// A lane refuses its buffer. The lanes before it have turned.
 fn exchange_refused(state: &mut [u16], lane: usize)
     requires { ⌜ length (now state) ≡ slots ⌝ }
     ensures { λ r. ⌜ Moves (onCore (λ (c : Core). exchangeRefused 4 lane c .core)) (now (state .entry)) (now (state .exit)) ⌝ }
@@ -269,7 +269,7 @@ fn exchange_refused(state: &mut [u16], lane: usize)
     latch_fault(state, false);
 }
 
-// The order to give a lane its spare: the second buffer, where it is sending from the first.
+// The order to give a lane its spare. If the lane sends from the first buffer, its spare is the second.
 fn exchange(lane: u16, in_second: bool) -> u16
     requires { ⌜ lane < 4 ⌝ }
     ensures { λ r. ⌜ r ≡ 8 * 1 + lane + 4 * Store.bit (not «in_second») ⌝ }
@@ -280,7 +280,7 @@ fn exchange(lane: u16, in_second: bool) -> u16
     EXCHANGE_BUFFER + lane + SECOND
 }
 
-// The orders of an exchange that is refused at a lane: the exchanges up to it, the outputs low, and every stream paused.
+// The orders if a lane refuses its buffer: the exchanges up to that lane, the outputs low, and every stream paused.
 fn refused_orders(lane: usize, in_second: LaneFlags) -> [u16; 9]
     requires { ⌜ lane < 4 ⌝ }
     ensures { λ r. ⌜ r ≡ codes 9 (codeGiven «in_second») (refusedOrders 4 lane) ⌝ }
@@ -297,7 +297,7 @@ fn refused_orders(lane: usize, in_second: LaneFlags) -> [u16; 9]
     }
 }
 
-// The orders of a frame set that starts: every buffer exchanged, every stream enabled, and the timers. All DMA streams are enabled before any
+// The orders of a frame set that starts: every buffer exchanged, every stream enabled, and the timers started. All DMA streams are enabled before any
 // timer DMA request is opened.
 fn start_orders(in_second: LaneFlags) -> [u16; 9]
     ensures { λ r. ⌜ r ≡ codes 9 (codeGiven «in_second») (startOrders 4 []) ⌝ }
@@ -315,7 +315,7 @@ fn start_orders(in_second: LaneFlags) -> [u16; 9]
     ]
 }
 
-// A frame set in flight, but for what it carries.
+// Puts a frame set in flight. The request that it carries is handled apart.
 fn mark_in_flight(state: &mut [u16], now_ms: u64)
     requires { ⌜ length (now state) ≡ slots ⌝ }
     ensures { λ r. ⌜ Moves (onCore (inFlight «now_ms»)) (now (state .entry)) (now (state .exit)) ⌝ }
@@ -326,7 +326,7 @@ fn mark_in_flight(state: &mut [u16], now_ms: u64)
     bump(state, FRAMES_STARTED);
 }
 
-// A request that the frame carries is sent.
+// If the frame carries a request, the request is sent and no longer pending.
 fn carry(state: &mut [u16], ordinary: bool)
     requires { ⌜ length (now state) ≡ slots ⌝ }
     ensures { λ r. ⌜ Moves (onCore (requestCarried ordinary)) (now (state .entry)) (now (state .exit)) ⌝ }
@@ -353,7 +353,7 @@ fn frame_started(state: &mut [u16], now_ms: u64, ordinary: bool)
 
 // ---- the answer of a service
 
-// The event, nine slots for orders, of which `count` are given, and the first duties.
+// The event, nine slots for orders, and the first duties. `count` orders are given.
 pub(crate) fn tell(out: &mut [u16], event: u16, count: u16, orders: [u16; 9], duties: MotorValues)
     requires { ⌜ length (now out) ≡ 15 ⌝ }
     ensures { λ r. ⌜ now (out .exit) ≡ event ∷ count ∷ (orders ++ duties) ⌝ }

@@ -1,6 +1,6 @@
-// Ported from crates/ferrowasp-stm32-critical/src/dshot_bank.rs of Eirik2020/ferro-wasp at commit 9cb8aca1a6, Copyright (c) 2026 Kaldstrand,
-// under the Apache License, Version 2.0 (see NOTICE). Changed: ported to Rattle, on a state in lent slots, with a promise for the call, which
-// refuses slices of other lengths.
+// Ported from crates/ferrowasp-stm32-critical/src/dshot_bank.rs of Eirik2020/ferro-wasp at commit 9cb8aca1a6, Copyright (c) 2026 Kaldstrand, under
+// the Apache License, Version 2.0 (see NOTICE). Changed: ported to Rattle, on a state in lent slots, with a promise for the call. The call refuses
+// slices of other lengths.
 //
 // The service of a bank: the lease, the frame in flight, the replies that wait, and the next frame set.
 
@@ -142,8 +142,8 @@ fn serve(
     send(state, now_ms, lease_expired, lanes, first, second, out);
 }
 
-// `lanes`: twelve slots, for each lane whether it took its buffer, then whether it has a capture, then the mask of its capture. The answer takes
-// fifteen slots: the event, how many orders, the orders, and the first duties.
+// `lanes` has twelve slots: for each lane whether it took its buffer, then whether it has a capture, then the mask of its capture. The answer takes
+// fifteen slots: the event, the number of orders, the orders, and the first duties.
 pub fn service(
     bank: &mut [u16],
     now_ms: u64,

@@ -57,7 +57,7 @@ pub(crate) fn clear_run(state: &mut [u16])
     state[RUN + 4] = 0;
 }
 
-// The run in the four slots from `k`, of an argument or of the state. An index above 255 is spent, as 255 is, and of the last slot the low byte
+// The run in the four slots from `k` on, of an argument or of the state. An index above 255 is spent, as 255 is. Only the low byte of the last slot
 // counts.
 pub(crate) fn run_from(run: &[u16], k: usize) -> DshotCommandSequence
     requires { ⌜ k + 3 < length (now run) ⌝ }
@@ -135,7 +135,7 @@ fn clear_requests(state: &mut [u16])
     clear_run(state);
 }
 
-// The orders of a fault are for the caller.
+// Latches a fault. The caller gives its orders.
 pub(crate) fn latch_fault(state: &mut [u16], spurious: bool)
     requires { ⌜ length (now state) ≡ slots ⌝ }
     ensures { λ r. ⌜ Moves (onCore (latchFault 4 spurious)) (now (state .entry)) (now (state .exit)) ⌝ }

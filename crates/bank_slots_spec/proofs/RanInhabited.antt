@@ -156,8 +156,8 @@ module _ (t : Timing) (h : Ticks t) (b : Buffers) where
         replies = n .replies;
       }
 
-  -- What runs from the slots of a new bank: a call that does not fit, the call that sets it to bidirectional, and a refused call. Then come a
-  -- lending, a look, and a taking of replies that are not held.
+  -- What runs from the slots of a new bank. First come a call that does not fit, the call that sets it to bidirectional, and a refused call. Then
+  -- come a lending, a look, and a taking of replies that are not held.
   abbrev calls : Buffers → List Made
   calls b′ =
       record { fits = false; call = command-stop; out = [] }
