@@ -1,5 +1,5 @@
--- What a call that asks for n slots answers and leaves in two lent buffers, where another call with that answer has filled the first; and the slots
--- of a capture that was told of.
+-- A call asks for n slots, and another call with its answer has filled the first of two lent buffers. These laws give the answer and what both
+-- buffers hold. They also give the slots of what a file holds besides its samples.
 -- Assumes nothing.
 use mathlib.Core.Path.{_≡_, sym, ap, _∙_}
 use mathlib.Core.List.{List, [], _∷_}

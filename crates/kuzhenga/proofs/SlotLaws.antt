@@ -1,4 +1,5 @@
--- What an exported call answers and leaves in its slots, whatever their number and filling; and that a list with every slot set is what was stored.
+-- What an exported call answers and leaves in its slots, for every number of slots and every content. If every slot of a list is set, the list is
+-- what was stored.
 -- Assumes nothing.
 use Prim.Native.Nat.{ℕ, _+_}
 use mathlib.Core.Path.{_≡_, refl, sym, ap, _∙_}

@@ -1,4 +1,4 @@
--- How a capture, a file and a line lie in slots: added, for the calls that document 01 asks for from C.
+-- How a capture, a file and a line lie in slots. Added: document 01 asks for calls from C.
 -- Assumes nothing.
 use Prim.Native.Nat.{ℕ}
 use mathlib.Core.List.{List, [], _∷_}
@@ -8,11 +8,11 @@ use Rattle.capture_file.specs.File.{Capture}
 use Rattle.capture_file.specs.Line.{padded}
 use Rattle.kuzhenga.specs.Slots.{one}
 
--- a capture beside its samples, in three slots: how many samples, the mask and EDT
+-- what a file holds besides its samples, in three slots: the number of samples, the mask and EDT
 abbrev pub captureSlots : Capture → List ℕ
 captureSlots c = length (c .samples) ∷ c .mask ∷ flag (c .edt) ∷ []
 
--- how many bytes a file or a line has, in one slot
+-- the number of bytes of a file or a line, in one slot
 abbrev pub countSlot : List ℕ → List ℕ
 countSlot bytes = one (length bytes)
 

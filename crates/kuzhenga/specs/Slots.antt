@@ -1,5 +1,4 @@
--- How an exported call puts an answer into the slots that it is lent.
--- Added, for the calls that document 01 asks for from C.
+-- How an exported call puts an answer into the slots that it is lent. Added: document 01 asks for calls from C.
 -- Assumes nothing.
 use Prim.Native.Nat.{ℕ, _/_, _%_}
 use mathlib.Core.List.{List, [], _∷_}
@@ -10,7 +9,7 @@ use Rattle.dshot_reply_spec.specs.Refusals.{wrongLength}
 use Rattle.dshot_reply_spec.specs.Kind.{kindNumber, readingNumber}
 use Rattle.dshot_reply_spec.specs.Value.{Reading}
 
--- the answer of a call that asks for n slots: 13, before all else, where it is lent another number of them
+-- The answer of a call that asks for n slots. If the call is lent another number of slots, it refuses with 13 (wrong length) before all else.
 unfoldable pub asked : {A : Type 0} → ℕ → List ℕ → Answer A → Answer A
 asked n out a = if eqb (length out) n then a else refused wrongLength
 
@@ -22,6 +21,6 @@ one n = n ∷ []
 abbrev pub halves : ℕ → List ℕ
 halves n = n % 65536 ∷ n / 65536 ∷ []
 
--- a reading in three slots: its kind, and its number in two
+-- a reading in three slots: its kind in one, and its number in two
 abbrev pub readingSlots : Reading → List ℕ
 readingSlots r = kindNumber r ∷ halves (readingNumber r)

@@ -1,6 +1,6 @@
 // Added: the exported calls on a bank whose state the host keeps in slots. They wrap those of the crate `bank_slots`.
 //
-// A bank takes 97 slots, whose contents are the library's own.
+// A bank takes 97 slots. Only the library decides what they hold.
 
 use bank_slots::commands;
 use bank_slots::interrupt;
@@ -22,7 +22,7 @@ ghost use Rattle.bank_slots_spec.specs.Called.{Called, fit, sized, stateAt, ans
 ghost use Rattle.bank_slots_spec.specs.Outs.{outAfter};
 ghost use Rattle.bank_slots_spec.specs.Arguments.{taken, present, masks, runGiven};
 
-// A new bank of a timing in four slots: the first lent buffer is current, the second spare.
+// Makes a new bank with a timing in four slots. The first lent buffer is current, and the second is spare.
 #[no_mangle]
 pub extern "C" fn kuzhenga_bank_from_lanes(timing: &[u16], bank: &mut [u16]) -> u32
     ensures { λ r. ⌜ r ≡ (if fit (now (bank .entry)) (sized 4 (now (timing .entry))) then 0 else wrongLength) ⌝ }
@@ -31,7 +31,7 @@ pub extern "C" fn kuzhenga_bank_from_lanes(timing: &[u16], bank: &mut [u16]) -> 
     commands::from_lanes(timing, bank)
 }
 
-// Switches to bidirectional DShot: meant for before the first frame, and not refused later.
+// Switches to bidirectional DShot. It is meant for the time before the first frame, but a later call is not refused.
 #[no_mangle]
 pub extern "C" fn kuzhenga_bank_enable_bidirectional(bank: &mut [u16], receives_replies: u32) -> u32
     ensures { λ r. ⌜ ((b : Buffers) → r ≡ number (answerOf (fit (now (bank .entry)) true) (stateAt (now (bank .entry)) b) (Call.enable-bidirectional (not (eqb «receives_replies» 0))))) ⌝ }
@@ -40,7 +40,7 @@ pub extern "C" fn kuzhenga_bank_enable_bidirectional(bank: &mut [u16], receives_
     commands::enable_bidirectional(bank, receives_replies != 0)
 }
 
-// Stops the motors and ends the lease.
+// Sets the four requested values to 0 and ends the lease.
 #[no_mangle]
 pub extern "C" fn kuzhenga_bank_command_stop(bank: &mut [u16]) -> u32
     ensures { λ r. ⌜ ((b : Buffers) → r ≡ number (answerOf (fit (now (bank .entry)) true) (stateAt (now (bank .entry)) b) (Call.command-stop))) ⌝ }
@@ -49,7 +49,7 @@ pub extern "C" fn kuzhenga_bank_command_stop(bank: &mut [u16]) -> u32
     commands::command_stop(bank)
 }
 
-// The throttles of the four motors, each up to 2000, in force for a lease.
+// Requests the throttles of the four motors, each up to 2000, for a lease.
 #[no_mangle]
 pub extern "C" fn kuzhenga_bank_command_throttles(
     bank: &mut [u16],
@@ -63,7 +63,7 @@ pub extern "C" fn kuzhenga_bank_command_throttles(
     commands::command_throttles(bank, throttles, now_ms, lease_ms)
 }
 
-// Queues a run of special-command frames for one motor: the run in four slots.
+// Queues a run of special-command frames for one motor. The run takes four slots.
 #[no_mangle]
 pub extern "C" fn kuzhenga_bank_command_special(bank: &mut [u16], motor: usize, run: &[u16]) -> u32
     ensures { λ r. ⌜ ((b : Buffers) → r ≡ number (answerOf (fit (now (bank .entry)) (sized 4 (now (run .entry)))) (stateAt (now (bank .entry)) b) (Call.command-special motor (runGiven (now (run .entry)))))) ⌝ }
@@ -72,7 +72,7 @@ pub extern "C" fn kuzhenga_bank_command_special(bank: &mut [u16], motor: usize, 
     commands::command_special(bank, motor, run)
 }
 
-// Requests telemetry from one motor in the next ordinary frame.
+// Requests telemetry from one motor in the next frame without a special command.
 #[no_mangle]
 pub extern "C" fn kuzhenga_bank_request_telemetry(bank: &mut [u16], motor: usize) -> u32
     ensures { λ r. ⌜ ((b : Buffers) → r ≡ number (answerOf (fit (now (bank .entry)) true) (stateAt (now (bank .entry)) b) (Call.request-telemetry motor))) ⌝ }
@@ -90,7 +90,7 @@ pub extern "C" fn kuzhenga_bank_cancel_telemetry_request(bank: &mut [u16]) -> u3
     commands::cancel_telemetry_request(bank)
 }
 
-// Takes the lane whose telemetry request the last service sent, in two slots: 1 and the lane, or 0 and 0.
+// Takes the lane whose telemetry request the last service sent. Two slots take 1 and the lane. If there is none, they take 0 and 0.
 #[no_mangle]
 pub extern "C" fn kuzhenga_bank_take_telemetry_request_sent(
     bank: &mut [u16],
@@ -103,8 +103,8 @@ pub extern "C" fn kuzhenga_bank_take_telemetry_request_sent(
 }
 
 // Ends an expired lease, times out a frame in flight, reads the replies that wait, and sends the next frame set. `lanes` has twelve slots: for each
-// lane whether it took its buffer, then whether it has a capture, then the mask of its capture. The answer takes fifteen slots: the event, how many
-// orders, the orders, and the first duties.
+// lane whether it took its buffer, then whether it has a capture, then the mask of its capture. The answer takes fifteen slots: the event, the number
+// of orders, the orders, and the first duties.
 #[no_mangle]
 pub extern "C" fn kuzhenga_bank_service(
     bank: &mut [u16],
@@ -122,8 +122,8 @@ pub extern "C" fn kuzhenga_bank_service(
     service::service(bank, now_ms, lanes, first, second, captures, out)
 }
 
-// A lane's DMA interrupt. `turned`: whether every lane turned to receive, and `turned_back` whether every lane turned back, where it is asked for.
-// The answer takes nine slots: the event, how many orders, and the orders.
+// A lane's DMA interrupt. `turned` says whether every lane turned to receive, and `turned_back` whether every lane turned back. Each counts only if
+// the Rust would ask for it. The answer takes nine slots: the event, the number of orders, and the orders.
 #[no_mangle]
 pub extern "C" fn kuzhenga_bank_on_dma_interrupt(
     bank: &mut [u16],
@@ -148,7 +148,7 @@ pub extern "C" fn kuzhenga_bank_on_dma_interrupt(
     )
 }
 
-// The replies decoded since the last call, once: 1 and four slots a lane, or zeros where there are none.
+// The replies decoded since the last call, once: 1 and four slots a lane. If none are held, slot 0 is 0 and each lane has 7 (no reply).
 #[no_mangle]
 pub extern "C" fn kuzhenga_bank_take_replies(bank: &mut [u16], out: &mut [u16]) -> u32
     ensures { λ r. ⌜ ((b : Buffers) → Called (fit (now (bank .entry)) (sized 17 (now (out .entry)))) (Call.take-replies) b (now (bank .entry)) (now (bank .exit)) r) ⌝ }
@@ -157,7 +157,7 @@ pub extern "C" fn kuzhenga_bank_take_replies(bank: &mut [u16], out: &mut [u16]) 
     looks::take_replies(bank, out)
 }
 
-// 1 in a bank that is bidirectional, else 0.
+// 1 if the bank is bidirectional, else 0.
 #[no_mangle]
 pub extern "C" fn kuzhenga_bank_is_bidirectional(bank: &[u16], out: &mut [u16]) -> u32
     ensures { λ r. ⌜ ((b : Buffers) → r ≡ number (answerOf (fit (now (bank .entry)) (sized 1 (now (out .entry)))) (stateAt (now (bank .entry)) b) (Call.is-bidirectional))) ⌝ }
@@ -166,7 +166,7 @@ pub extern "C" fn kuzhenga_bank_is_bidirectional(bank: &[u16], out: &mut [u16]) 
     looks::is_bidirectional(bank, out)
 }
 
-// 1 in a bank that has latched a fault, else 0.
+// 1 if the bank has latched a fault, else 0.
 #[no_mangle]
 pub extern "C" fn kuzhenga_bank_is_faulted(bank: &[u16], out: &mut [u16]) -> u32
     ensures { λ r. ⌜ ((b : Buffers) → r ≡ number (answerOf (fit (now (bank .entry)) (sized 1 (now (out .entry)))) (stateAt (now (bank .entry)) b) (Call.is-faulted))) ⌝ }
@@ -184,7 +184,7 @@ pub extern "C" fn kuzhenga_bank_command_pending(bank: &[u16], out: &mut [u16]) -
     looks::command_pending(bank, out)
 }
 
-// The DShot values that are asked of the four motors.
+// The DShot values that are requested of the four motors.
 #[no_mangle]
 pub extern "C" fn kuzhenga_bank_requested_values(bank: &[u16], out: &mut [u16]) -> u32
     ensures { λ r. ⌜ ((b : Buffers) → r ≡ number (answerOf (fit (now (bank .entry)) (sized 4 (now (out .entry)))) (stateAt (now (bank .entry)) b) (Call.requested-values))) ⌝ }
@@ -202,7 +202,7 @@ pub extern "C" fn kuzhenga_bank_stats(bank: &[u16], out: &mut [u16]) -> u32
     looks::stats(bank, out)
 }
 
-// Each count of the four lanes, twelve of 32 bits, in the order of DshotReplyStats.
+// Twelve counts of 32 bits, three for each lane, in the order of DshotReplyStats.
 #[no_mangle]
 pub extern "C" fn kuzhenga_bank_reply_stats(bank: &[u16], out: &mut [u16]) -> u32
     ensures { λ r. ⌜ ((b : Buffers) → r ≡ number (answerOf (fit (now (bank .entry)) (sized 24 (now (out .entry)))) (stateAt (now (bank .entry)) b) (Call.reply-stats))) ⌝ }
@@ -211,7 +211,7 @@ pub extern "C" fn kuzhenga_bank_reply_stats(bank: &[u16], out: &mut [u16]) -> u3
     looks::reply_stats(bank, out)
 }
 
-// The sixteen slots of the sequence that a lane is sending, out of whichever buffer holds it.
+// The sixteen slots of the sequence that a lane is sending, from the buffer that holds it.
 #[no_mangle]
 pub extern "C" fn kuzhenga_bank_sending(
     bank: &[u16],
@@ -226,7 +226,7 @@ pub extern "C" fn kuzhenga_bank_sending(
     looks::sending(bank, first, second, motor, out)
 }
 
-// 1 where no frame set was released for two milliseconds, on a clock of 32 bits that may wrap, else 0.
+// 1 if no frame set was released for two milliseconds, else 0. The clock has 32 bits and may wrap.
 #[no_mangle]
 pub extern "C" fn kuzhenga_fallback_release_due(now_ms: u32, last_release_ms: u32) -> u32
     ensures { λ r. ⌜ r ≡ flag (fallbackReleaseDue «now_ms» «last_release_ms») ⌝ }

@@ -1,6 +1,7 @@
 // Added: the exported calls on capture files and the bench's line. They wrap those of the crate `capture_file`.
 //
-// The samples of a file take 4096 slots, a file 12294 bytes, and a line 32 bytes. More than 4096 samples are a lent buffer of the wrong length.
+// The samples of a file take 4096 slots, a file 12294 bytes, and a line 32 bytes. If a host lends more than 4096 samples to be written, the call
+// refuses with 13 (wrong length).
 
 use crate::slots;
 use capture_file::file::CaptureRead;
@@ -18,7 +19,7 @@ ghost use Rattle.capture_file.specs.Listing.{fileLine};
 ghost use Rattle.kuzhenga.specs.Slots.{asked};
 ghost use Rattle.kuzhenga.specs.CaptureSlots.{captureSlots, countSlot, lineBytes};
 
-// Reads a file. Its samples are put into the first of the slots, and how many they are, the mask and EDT (0 or 1) into three.
+// Reads a file. Its samples fill the first slots. Three more slots take the number of samples, the mask and EDT (0 or 1).
 #[no_mangle]
 pub extern "C" fn kuzhenga_read_capture(file: &[u8], samples: &mut [u16], about: &mut [u16]) -> u32
     ensures { λ r. ⌜ r ≡ refusalNumber (asked 3 (now (about .entry)) (readInto (now (file .entry)) (now (samples .entry)))) ⌝ }
@@ -47,7 +48,7 @@ pub extern "C" fn kuzhenga_read_capture(file: &[u8], samples: &mut [u16], about:
     }
 }
 
-// Writes the file of a capture at the front of a buffer, and its length into one slot; of the mask the low sixteen bits count.
+// Writes the file of a capture at the front of a buffer, and its length into one slot. Only the mask's low sixteen bits count.
 #[no_mangle]
 pub extern "C" fn kuzhenga_write_capture(
     samples: &[u16],
@@ -86,7 +87,7 @@ pub extern "C" fn kuzhenga_write_capture(
     }
 }
 
-// The line of a file with zeros after it, and its length in one slot. A file that holds no capture has the line `refused 17`: the call is done.
+// The line of a file with zeros after it, and its length in one slot. If a file holds no capture, its line is `refused 17`, and the call is done.
 #[no_mangle]
 pub extern "C" fn kuzhenga_list_capture(
     file: &[u8],

@@ -1,6 +1,6 @@
 // Added: the exported calls on throttles, command runs and leases. They wrap those of the crate `dshot`.
 //
-// A command run takes four slots: its two commands, its index and how often the command is still to be sent.
+// A command run takes four slots: its two commands, its index, and how often the command is still to be sent.
 
 use crate::slots;
 use dshot::CommandValue;
@@ -20,7 +20,7 @@ ghost use Rattle.dshot.specs.Answers.{runOf, commandOf};
 ghost use Rattle.kuzhenga.specs.Slots.{asked};
 ghost use Rattle.kuzhenga.specs.FrameSlots.{runSlots, runAt, commandSlots};
 
-// The DShot value of a throttle; one above 2000 counts as 2000.
+// The DShot value of a throttle. A throttle above 2000 counts as 2000.
 #[no_mangle]
 pub extern "C" fn kuzhenga_throttle_to_dshot(value: u32) -> u32
     ensures { λ r. ⌜ r ≡ throttleValue value ⌝ }
@@ -63,7 +63,7 @@ fn put_run(run: DshotCommandSequence, out: &mut [u16])
     );
 }
 
-// The command run that sets the spin direction and saves it, in four slots.
+// The command run that sets the spin direction and then saves it, in four slots.
 #[no_mangle]
 pub extern "C" fn kuzhenga_command_spin_direction(reversed: u32, sequence: &mut [u16]) -> u32
     ensures { λ r. ⌜ r ≡ refusalNumber (asked 4 (now (sequence .entry)) (given (spinDirection (not (eqb reversed 0))))) ⌝ }
@@ -79,7 +79,7 @@ pub extern "C" fn kuzhenga_command_spin_direction(reversed: u32, sequence: &mut 
     0
 }
 
-// Four slots as a command run that is not spent.
+// The command run in four slots. It is not spent.
 fn run_at(slots: &[u16]) -> DshotCommandSequence
     requires { ⌜ (length (now slots) ≡ 4) × (getD (now slots) 2 0 < 2) ⌝ }
     ensures { λ r. ⌜ nextValue 10 (runOf r) ≡ nextValue 10 (runAt (now (slots .entry))) ⌝ }
@@ -108,7 +108,7 @@ fn put_command(command: CommandValue, out: &mut [u16])
     }
 }
 
-// The command for the next frame in two slots, 1 and the command, or 0 and 0 where the run is spent; the run's slots are stepped.
+// Steps a run. Two slots take 1 and the command for the next frame. If the run is spent, they take 0 and 0.
 #[no_mangle]
 pub extern "C" fn kuzhenga_command_next_value(sequence: &mut [u16], value: &mut [u16]) -> u32
     ensures { λ r. ⌜ r ≡ refusalNumber (asked 4 (now (sequence .entry)) (asked 2 (now (value .entry)) (given (nextValue 10 (runAt (now (sequence .entry))))))) ⌝ }
@@ -134,7 +134,7 @@ pub extern "C" fn kuzhenga_command_next_value(sequence: &mut [u16], value: &mut 
     0
 }
 
-// 1 once a command lease is older than its duration, else 0.
+// 1 if a command lease is older than its duration, else 0.
 #[no_mangle]
 pub extern "C" fn kuzhenga_command_lease_expired(
     started_ms: u64,

@@ -48,7 +48,7 @@ fn put_frame(answer: FrameRead, out: &mut [u16]) -> u32
     }
 }
 
-// What a packet says, in three slots; a number above 65535 is no packet.
+// What a packet says, in three slots. A number above 65535 is no packet.
 #[no_mangle]
 pub extern "C" fn kuzhenga_read_packet(packet: u32, frame: &mut [u16]) -> u32
     ensures { λ r. ⌜ r ≡ refusalNumber (asked 3 (now (frame .entry)) (readWide packet)) ⌝ }
@@ -63,7 +63,7 @@ pub extern "C" fn kuzhenga_read_packet(packet: u32, frame: &mut [u16]) -> u32
     put_frame(read::read_packet(DshotPacket(packet as u16)), frame)
 }
 
-// What a sequence says, in three slots: its first duty, its sixteen slots, and the timing that it was made with.
+// What a sequence says, in three slots. It takes the first duty, the sixteen slots, and the timing that the sequence was made with.
 #[no_mangle]
 pub extern "C" fn kuzhenga_read_compare_sequence(
     first: u32,

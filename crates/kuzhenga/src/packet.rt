@@ -57,7 +57,8 @@ pub extern "C" fn kuzhenga_packet_try_from_value(
     }
 }
 
-// A packet at a time, and not the four of `dshot` at once: those are inlined where a bank sends them, as long as nothing else calls for them.
+// Makes one packet at a time, and does not call `dshot` for all four. That function is inlined in the bank's sending, as long as nothing else calls
+// it.
 fn put_packets(
     kind: ChecksumKind,
     values: &[u16],
@@ -80,7 +81,7 @@ fn put_packets(
     0
 }
 
-// The plain packets of four motors; a telemetry lane above 3 marks none.
+// The plain packets of four motors. If the telemetry lane is above 3, no packet has the telemetry bit.
 #[no_mangle]
 pub extern "C" fn kuzhenga_four_motor_packets(
     values: &[u16],

@@ -32,7 +32,7 @@ pub extern "C" fn kuzhenga_reply_transitions_for(value: u32) -> u32
     dshot_reply::reply_transitions_for((value % 4096) as u16)
 }
 
-// The transition bits of a capture, in two slots; of the mask the low sixteen bits count.
+// The transition bits of a capture, in two slots. Only the mask's low sixteen bits count.
 #[no_mangle]
 pub extern "C" fn kuzhenga_reply_transitions(
     samples: &[u16],
@@ -73,7 +73,7 @@ pub extern "C" fn kuzhenga_decode_gcr(transitions: u32, value: &mut [u16]) -> u3
     }
 }
 
-// Puts an answer into three slots: the kind, and the number in two.
+// Puts an answer into three slots: the kind in one, and the number in two.
 fn put_reply(answer: ReplyRead, out: &mut [u16]) -> u32
     requires { ⌜ length (now out) ≡ 3 ⌝ }
     ensures { λ r. ⌜ r ≡ refusalNumber (replyAnswer answer) ⌝ }
@@ -110,7 +110,7 @@ pub extern "C" fn kuzhenga_reply_from_value(
     )
 }
 
-// The reading of a capture, in three slots; of the mask the low sixteen bits count.
+// The reading of a capture, in three slots. Only the mask's low sixteen bits count.
 #[no_mangle]
 pub extern "C" fn kuzhenga_decode_sampled_reply(
     samples: &[u16],

@@ -1,4 +1,4 @@
-// Added: four slots as values or as a timing, and a flag, four numbers and bytes for slots, for the exported calls.
+// Added, for the exported calls. Four slots are read as values or as a timing. Slots and bytes are filled with a flag, four numbers, or bytes.
 
 use dshot::DshotTiming;
 use dshot::MotorValues;
@@ -9,14 +9,14 @@ ghost use Rattle.dshot_spec.specs.Packet.{flag};
 ghost use Rattle.dshot.specs.Answers.{timingOf};
 ghost use Rattle.kuzhenga.specs.FrameSlots.{timingAt};
 
-// A flag in a slot.
+// A flag as a slot: 1 or 0.
 pub(crate) fn flag_of(set: bool) -> u16
     ensures { λ r. ⌜ r ≡ flag set ⌝ }
 {
     if set { 1 } else { 0 }
 }
 
-// Four slots as the values of the motors.
+// The values of the motors in four slots.
 pub(crate) fn four_values(slots: &[u16]) -> MotorValues
     requires { ⌜ length (now slots) ≡ 4 ⌝ }
     ensures { λ r. ⌜ r ≡ now (slots .entry) ⌝ }
@@ -35,7 +35,7 @@ pub(crate) fn put_four(out: &mut [u16], a: u16, b: u16, c: u16, d: u16)
     out[3] = d;
 }
 
-// Four slots as a timing.
+// The timing in four slots.
 pub(crate) fn timing_at(slots: &[u16]) -> DshotTiming
     requires { ⌜ length (now slots) ≡ 4 ⌝ }
     ensures { λ r. ⌜ timingOf r ≡ timingAt (now (slots .entry)) ⌝ }
@@ -48,7 +48,7 @@ pub(crate) fn timing_at(slots: &[u16]) -> DshotTiming
     }
 }
 
-// Fills a buffer with as many bytes.
+// Fills a buffer with bytes of the same length.
 pub(crate) fn put_bytes(out: &mut [u8], bytes: &[u8])
     requires { ⌜ length (now out) ≡ length (now bytes) ⌝ }
     ensures { λ r. ⌜ now (out .exit) ≡ now (bytes .entry) ⌝ }

@@ -62,7 +62,7 @@ pub extern "C" fn kuzhenga_duty_for_bit(timing: &[u16], set: u32, duty: &mut [u1
     0
 }
 
-// The frame of a packet in 22 slots, at a largest duty; the low sixteen bits of both count.
+// The frame of a packet in 22 slots, at a largest duty. Only the low sixteen bits of both numbers count.
 #[no_mangle]
 pub extern "C" fn kuzhenga_encode_packet(packet: u32, max_duty: u32, output: &mut [u16]) -> u32
     ensures { λ r. ⌜ r ≡ refusalNumber (encodedPacket (now (output .entry)) (packet % 65536) («max_duty» % 65536)) ⌝ }
@@ -76,7 +76,7 @@ pub extern "C" fn kuzhenga_encode_packet(packet: u32, max_duty: u32, output: &mu
     answer.number()
 }
 
-// The sequence of a packet, of which the low sixteen bits count: the first duty in one slot, the others in sixteen.
+// The sequence of a packet: the first duty in one slot, the others in sixteen. Only the packet's low sixteen bits count.
 #[no_mangle]
 pub extern "C" fn kuzhenga_encode_compare_sequence(
     packet: u32,
