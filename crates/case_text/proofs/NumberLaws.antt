@@ -1,4 +1,4 @@
--- Steps along the bytes of a text: to the first that is one byte, and along the digits of a number.
+-- Steps along the bytes of a text: to the first byte of a kind, and along the digits of a number.
 -- Assumes nothing.
 use Prim.Native.Nat.{ℕ, _+_, _*_, _≤_, _<_}
 use mathlib.Core.Path.{_≡_, refl, ap, sym, _∙_}

@@ -1,4 +1,4 @@
--- What one step of the reader of a number does, for the contract of a private function. No public promise cites it.
+-- What one step of the reader of a number does. Only the contract of a private function cites this; no public promise does.
 -- Assumes nothing.
 use Prim.Native.Nat.{ℕ}
 use lib.Dec.{ltb}
@@ -7,6 +7,6 @@ use Rattle.case_text.specs.declared.numbers.Grown.{Grown}
 use Rattle.case_text.specs.declared.numbers.Grown.the-variants.{To, TooLarge}
 use Rattle.case_text.specs.Numbers.{past64}
 
--- a number that 64 bits hold, or that it is too large
+-- a number that fits 64 bits, or that it is too large
 unfoldable pub grown : ℕ → Grown
 grown n = if ltb n past64 then To n else TooLarge

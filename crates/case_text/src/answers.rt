@@ -14,7 +14,7 @@ ghost use Rattle.dshot_reply_spec.specs.Kind.{kindNumber, readingNumber};
 ghost use Rattle.dshot_reply.specs.Answers.{errorNumber, reading, replyAnswer};
 ghost use Rattle.case_text.specs.Answers.{ofGiven};
 
-// The number of a refusal, and zeros; or 0, the kind of a reading (0 where the call gives none), and the value.
+// The number of a refusal, and zeros. If the call is done: 0, the kind of a reading (0 if the call gives none), and the value.
 pub struct Answer {
     pub refusal: u64,
     pub kind: u64,

@@ -10,10 +10,10 @@ ghost use Rattle.case_text.specs.Steps.{grown};
 // A number above this has no room for one more digit.
 const MOST_TENS: u64 = u64::MAX / 10;
 
-// What `digit` answers for a byte that is none.
+// What `digit` answers for a byte that is no digit.
 const NO_DIGIT: u64 = 10;
 
-// The place of the first byte from `from` on that is `byte`, or the length where there is none; `from` itself where it is past the end.
+// The place of the first byte `byte` from `from` on. If there is none, the number of bytes. If `from` is past the end, `from` itself.
 pub fn find(text: &[u8], from: usize, byte: u8) -> usize
     ensures { λ r. ⌜ r ≡ from + before byte (drop from (now (text .entry))) ⌝ }
     ensures { λ r. ⌜ r - from ≤ length (now (text .entry)) - from ⌝ }

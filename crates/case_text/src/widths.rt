@@ -28,7 +28,7 @@ pub fn flag(x: bool) -> u64
     if x { 1 } else { 0 }
 }
 
-// One more, up to the largest number, which no list comes near.
+// One more, up to the largest number. No list comes near it.
 pub fn one_more(n: u64) -> u64
     ensures { λ r. ⌜ r ≡ min (n + 1) 18446744073709551615 ⌝ }
 {

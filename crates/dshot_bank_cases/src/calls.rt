@@ -1,8 +1,8 @@
-// Makes the call of a line, by its code: 0 to 7 in demands.rt, 8 in services.rt, 9 in interrupts.rt, 10 to 17 and 21 in looks.rt, 18 to 20 in
-// sets.rt.
+// Makes the call of a line, by its code. Codes 0 to 7 are in demands.rt, 8 in services.rt, 9 in interrupts.rt. Codes 10 to 17 and 21 are in looks.rt,
+// and 18 to 20 in sets.rt.
 //
-// A line is unreadable where its code is none of these, where it has too few or too many numbers, or one that the call cannot take: one that is out
-// of range for its type, a flag that is neither 0 nor 1, or a length above that of the buffers here.
+// A line is unreadable if its code is none of these, or if it has too few or too many numbers. It is also unreadable if the call cannot take one of
+// its numbers: one out of range for its type, a flag above 1, or a length above that of the buffers here.
 
 use crate::demands;
 use crate::interrupts;

@@ -50,8 +50,8 @@ fn add_run(out: &mut [u16; MOST_SAMPLES], n: usize, room: usize, sample: u64, ti
     }
 }
 
-// Writes out runs, each a sample and how many times it comes, and leaves the rest. `stated` is how many runs there must be, and `room` the most
-// samples. False where they cannot be read.
+// Writes out runs: each is a sample and how many times it comes. The samples after them stay. `stated` is how many runs there must be, and `room` the
+// most samples. If the runs cannot be read, the answer is false.
 pub(crate) fn unroll(out: &mut [u16; MOST_SAMPLES], room: usize, runs: &[u64], stated: u64) -> bool
     requires { ⌜ room ≤ 700 ⌝ }
 {

@@ -1,4 +1,4 @@
-// Makes the calls of codes 0 to 7: a new bank, and what commands one.
+// Makes the calls of codes 0 to 7. They make a bank and command it.
 
 use crate::motors;
 use crate::numbers::all_up_to;

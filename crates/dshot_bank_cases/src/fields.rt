@@ -19,7 +19,7 @@ use dshot_bank::Frame;
 use dshot_bank::MotorRun;
 use dshot_bank::Requests;
 
-// No call on a bank changes it: it is printed so that one that did would show.
+// No call on a bank changes the timing. It is printed so that a call that changed it would be seen.
 fn of_timing(timing: DshotTiming) -> Part {
     part::four(
         wide16(timing.arr),
@@ -29,7 +29,7 @@ fn of_timing(timing: DshotTiming) -> Part {
     )
 }
 
-// 0, or 1 and the lease.
+// 0 if there is no lease. Otherwise 1 and the duration.
 fn of_lease(over_after: u64) -> Part {
     if over_after == 0 {
         return part::one(0);
@@ -37,7 +37,7 @@ fn of_lease(over_after: u64) -> Part {
     part::two(1, over_after - 1)
 }
 
-// 0, or the motor and the run.
+// 0 if there is no run. Otherwise the motor and the run.
 fn of_run(run: MotorRun) -> Part {
     match run {
         MotorRun::None => part::one(0),
@@ -71,7 +71,7 @@ fn of_frame(frame: Frame) -> Part {
     Part { count: 7, list }
 }
 
-// For each lane, the buffer that holds the sequence that it is sending.
+// For each lane: the buffer from which it is sending.
 fn of_marks(frame: Frame) -> Part {
     let marks = frame.in_second;
     part::four(
@@ -98,7 +98,7 @@ fn put_requests(out: &mut [u8; BYTES], at: usize, requests: Requests) -> usize {
     put::part(out, told, of_run(run))
 }
 
-// The replies and their counts are what the bank's own calls show of them.
+// The replies and their counts are printed as the bank's own calls show them.
 pub(crate) fn put_fields(out: &mut [u8; BYTES], at: usize, bank: DshotBank) -> usize {
     let core = bank.core;
     let frame = core.frame;

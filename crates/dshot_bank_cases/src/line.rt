@@ -27,7 +27,7 @@ fn unreadable(bank: DshotBank, filled: usize) -> Done {
     }
 }
 
-// A new bank starts with buffers of zeros. They are there before the copies are taken, so its line shows no slot.
+// A new bank starts with buffers of zeros. They are set before the copies are taken, so its line shows no changed slot.
 fn clear(code: u64, first: &mut [u16; ROOM], second: &mut [u16; ROOM]) {
     if code == 0 {
         *first = [0; ROOM];
@@ -35,7 +35,7 @@ fn clear(code: u64, first: &mut [u16; ROOM], second: &mut [u16; ROOM]) {
     }
 }
 
-// All of a line but its slots.
+// All of a line except its slots.
 fn put_outcome(out: &mut [u8; BYTES], at: usize, code: u64, outcome: Outcome) -> usize {
     let answer = outcome.answer;
     let list = outcome.orders;

@@ -1,4 +1,4 @@
-// Makes the calls of codes 10 to 16, which have no arguments, of 17 and of 21: what is looked at, the replies, and whether a release is due.
+// Makes the calls of codes 10 to 16, 17 and 21: the looks, the replies, the view, and whether a release is due. Codes 10 to 16 have no arguments.
 
 use crate::counts;
 use crate::numbers::all_up_to;
@@ -39,7 +39,7 @@ pub(crate) fn look(code: u64, given: &[u64], bank: DshotBank) -> Outcome {
     }
 }
 
-// A refusal's number, 0 for none, and the slots of a view: all 16, where there are as many.
+// A refusal's number, or 0, and the slots of a view. If the view shows them, there are 16.
 fn of_view(refusal: u64, slots: &[u16]) -> Part {
     let mut list = [0; MOST];
     list[0] = refusal;
@@ -79,7 +79,7 @@ pub(crate) fn view<'a>(
     outcome::answered(of_view(refusal, slots), bank)
 }
 
-// 21 NOW LAST, which asks no bank
+// 21 NOW LAST. It asks no bank.
 pub(crate) fn release_due(given: &[u64], bank: DshotBank) -> Outcome {
     if given.len() != 2 {
         return outcome::unreadable(bank);

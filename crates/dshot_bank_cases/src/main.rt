@@ -1,8 +1,8 @@
-// Makes the calls of a list on a bank, and prints what each gave: its answer, its orders, the bank's fields and the slots that it changed.
+// Makes the calls of a list on a bank, and prints what each gave: its answer, its orders, the bank's fields and the changed slots.
 //
-// The list comes on standard input, as text of at most 65535 bytes, one call a line: unsigned decimal numbers with one space between them, the
-// first of which is the code of the call; `calls.rt` says where each code is. For each line one line is printed, `CODE ANSWER | ORDERS | FIELDS |
-// SLOTS`. A line that cannot be read ends the run. Before a list's first code 0, the bank is one of a timing of zeros.
+// The list comes on standard input, as text of at most 65535 bytes, one call a line. A line is unsigned decimal numbers with one space between them.
+// The first is the code of the call; `calls.rt` says where each code is. For each line one line is printed, `CODE ANSWER | ORDERS | FIELDS | SLOTS`.
+// A line that cannot be read ends the run. Before a list's first code 0, the bank has a timing of zeros.
 
 mod calls;
 mod capture;

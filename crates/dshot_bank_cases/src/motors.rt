@@ -3,7 +3,7 @@
 use dshot_bank::DshotMotor;
 use dshot_bank::MotorChoice;
 
-// One more than the lane.
+// The lane + 1.
 pub(crate) fn of_motor(motor: DshotMotor) -> u64 {
     match motor {
         DshotMotor::Motor1 => 1,
@@ -13,7 +13,7 @@ pub(crate) fn of_motor(motor: DshotMotor) -> u64 {
     }
 }
 
-// 0 for none.
+// 0 if there is none, else the lane + 1.
 pub(crate) fn of_choice(motor: MotorChoice) -> u64 {
     match motor {
         MotorChoice::None => 0,

@@ -8,7 +8,7 @@ ghost use lib.ListN.{length};
 // The most numbers that a line has: eighteen, and two for each of 700 runs.
 pub const MOST_NUMBERS: usize = 1418;
 
-// Reads numbers with one space between them, and answers how many there are: at least one, or 0 where the line has anything else.
+// Reads numbers with one space between them, and answers how many there are. If the line has anything else, the answer is 0.
 pub(crate) fn read_line(line: &[u8], out: &mut [u64]) -> usize
     ensures { λ r. ⌜ r ≤ length (now (out .exit)) ⌝ }
 {

@@ -9,7 +9,7 @@ use dshot_bank::orders::MOST_ORDERS;
 use dshot_bank::orders::Order;
 use dshot_bank::orders::Orders;
 
-// The kind that the first duties follow.
+// The kind of order that the first duties follow.
 const START_FRAME: u64 = 3;
 
 fn put_order(out: &mut [u8; BYTES], at: usize, order: Order, duties: MotorValues) -> usize {

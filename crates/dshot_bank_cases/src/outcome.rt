@@ -6,7 +6,7 @@ use dshot::MotorValues;
 use dshot_bank::DshotBank;
 use dshot_bank::orders::Orders;
 
-// The answer, the orders with the first duties, and the bank after it, where the line can be read; else nothing but the bank before it.
+// If the line can be read: the answer, the orders with the first duties, and the bank after the call. If not: only the bank before it.
 pub struct Outcome {
     pub is_readable: bool,
     pub answer: Part,
@@ -44,7 +44,7 @@ pub(crate) fn ordered(
     }
 }
 
-// Of a call that gives no orders.
+// The outcome of a call that gives no orders.
 pub(crate) fn answered(answer: Part, bank: DshotBank) -> Outcome {
     ordered(answer, no_orders(), [0; 4], bank)
 }

@@ -3,10 +3,10 @@
 use case_text::widths::wide16;
 use dshot::MotorValues;
 
-// The most: those of a view.
+// The most numbers of a part: those of a view.
 pub const MOST: usize = 17;
 
-// The first `count` of the list; the rest are 0.
+// The first `count` numbers of the list count. The rest are 0.
 pub struct Part {
     pub count: usize,
     pub list: [u64; MOST],

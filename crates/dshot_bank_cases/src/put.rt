@@ -1,5 +1,5 @@
-// What is printed goes through a buffer, so that a list takes few writes: each function puts its bytes after the first `at` of the buffer, and
-// answers where they end. A buffer that is full is written and starts again.
+// What is printed goes through a buffer, so that a list takes few writes. Each function puts its bytes after the first `at` bytes of the buffer, and
+// answers where they end. If the buffer is full, it is written and starts again.
 
 use crate::part::MOST;
 use crate::part::Part;
@@ -35,7 +35,7 @@ fn text(out: &mut [u8; BYTES], at: usize, bytes: &[u8]) -> usize {
     end
 }
 
-// A number that no space stands before.
+// A number without a space before it.
 pub(crate) fn digits(out: &mut [u8; BYTES], at: usize, n: u64) -> usize {
     let mut bytes = [0u8; 20];
     let count = io::decimal(n, &mut bytes);
@@ -59,12 +59,12 @@ pub(crate) fn part(out: &mut [u8; BYTES], at: usize, part: Part) -> usize {
     end
 }
 
-// What parts are joined by, but for its last space: each number of the next part has one before it.
+// The bar between two parts. The space after it comes with the next part's first number.
 pub(crate) fn bar(out: &mut [u8; BYTES], at: usize) -> usize {
     text(out, at, b" |")
 }
 
-// That space, where the part has no number.
+// The space after a bar, if the part has no number.
 pub(crate) fn empty(out: &mut [u8; BYTES], at: usize) -> usize {
     byte(out, at, b' ')
 }

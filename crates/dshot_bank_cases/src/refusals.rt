@@ -1,4 +1,4 @@
-// The refusals of a bank as the numbers of document 01, 0 for none.
+// The refusals of a bank as the numbers of document 01; 0 if there is none.
 
 use dshot_bank::commands::DshotCommandError;
 use dshot_bank::commands::DshotSpecialCommandError;

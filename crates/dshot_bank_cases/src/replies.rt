@@ -24,7 +24,7 @@ fn of_lane(lane: TakenReply) -> ReplyRead {
     reply
 }
 
-// 0 where there are none, else 1 and those of each lane.
+// 0 if there are none. Otherwise 1 and the replies of each lane.
 pub(crate) fn of_taken(taken: RepliesTaken) -> Part {
     if !taken.held {
         return part::one(0);

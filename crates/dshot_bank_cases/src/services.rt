@@ -64,7 +64,7 @@ fn serve(
 
 // 8 NOW TAKEN*4 PRESENT*4 MASK*4 FIRST SECOND CAPTURES RUNS (SAMPLE TIMES)*RUNS
 //
-// Of each buffer as much is lent as the line says, which is no more than there is.
+// Lends as much of each buffer as the line says, which is no more than there is.
 pub(crate) fn service(
     given: &[u64],
     bank: DshotBank,

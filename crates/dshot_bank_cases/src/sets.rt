@@ -1,4 +1,4 @@
-// Makes the calls of codes 18 to 20: what is set by hand.
+// Makes the calls of codes 18 to 20. They set slots and counts, which no call of the library does.
 
 use crate::numbers::all_up_to;
 use crate::outcome;
@@ -13,7 +13,7 @@ use dshot_bank::DshotBank;
 use dshot_bank::DshotStats;
 use dshot_bank::LaneReply;
 
-// The last slot that the bank uses.
+// The last slot of a buffer that the bank uses.
 const LAST_SLOT: u64 = 63;
 
 // 18 BUFFER SLOT VALUE

@@ -4,7 +4,7 @@ use crate::put;
 use crate::put::BYTES;
 use case_text::widths::wide16;
 
-// The slots of a sequence buffer: more than the bank takes, so that it can be lent too many.
+// The slots of a sequence buffer: more than the bank takes, so that a list can lend too many.
 pub const ROOM: usize = 80;
 
 fn put_slot(out: &mut [u8; BYTES], at: usize, buffer: u64, slot: usize, value: u16) -> usize {

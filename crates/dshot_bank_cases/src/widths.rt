@@ -5,7 +5,7 @@ pub const MOST_16: u64 = 0xffff;
 
 pub const MOST_32: u64 = 0xffff_ffff;
 
-// Each call tests its numbers before it narrows them, by `numbers::all_up_to`: a number that is too large, and would become 0 here, ends the run
+// Each call tests its numbers before it narrows them, by `numbers::all_up_to`. A number that is too large would become 0 here, but the run ends
 // there. So no proof has to carry the test along.
 pub(crate) fn narrow8(n: u64) -> u8 {
     if n < 256 { n as u8 } else { 0 }

@@ -1,4 +1,4 @@
-// Captures, which a record gives as runs of equal samples, and slots, which it gives one by one.
+// Captures and slots. A record gives a capture as runs of equal samples, and slots one by one.
 
 ghost use mathlib.Core.Path.{_≡_};
 ghost use Prim.Native.Nat.{_≤_};
@@ -60,7 +60,7 @@ fn add_run(out: &mut [u16], n: usize, sample: u64, times: u64) -> Capture
     }
 }
 
-// Writes out runs, each a sample and how many times it comes. `stated` is how many runs there must be.
+// Writes out runs: each is a sample and how many times it comes. `stated` is how many runs there must be.
 pub(crate) fn unroll(runs: &[u64], stated: u64, out: &mut [u16]) -> Capture
     ensures { λ r. ⌜ r .samples ≤ length (now (out .exit)) ⌝ }
 {

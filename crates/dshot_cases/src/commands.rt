@@ -39,7 +39,7 @@ pub(crate) fn throttles(numbers: &[u64]) -> Verdict {
     judge(capture::same(&found, &stored))
 }
 
-// Whether a step gave what a record has of it: 1 and the command, or 0 and 0.
+// Whether a step gave what a record has for it: 1 and the command, or 0 and 0.
 fn is_command(value: CommandValue, given: u64, command: u64) -> bool {
     match value {
         CommandValue::None => {
@@ -94,7 +94,7 @@ fn is_run(run: DshotCommandSequence, commands: [u16; 2], index: u64, left: u64) 
     wide8(run.repeats_left) == left
 }
 
-// 22 COMMAND*2 INDEX LEFT GIVEN COMMAND COMMAND*2 INDEX LEFT, where the last four are the run after the step
+// 22 COMMAND*2 INDEX LEFT GIVEN COMMAND COMMAND*2 INDEX LEFT. The last four are the run after the step.
 pub(crate) fn step(numbers: &[u64]) -> Verdict {
     if numbers.len() != 11 {
         return Verdict::Unreadable;

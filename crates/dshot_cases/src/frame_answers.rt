@@ -14,7 +14,7 @@ use dshot::TimingMade;
 use dshot::read::FrameRead;
 use dshot_reply::refusals::WRONG_LENGTH;
 
-// The number of a refusal, and zeros; or 0, and up to four numbers, of which those that the call does not give are 0.
+// The number of a refusal, and zeros. If the call is done: 0, and up to four numbers. The numbers that a call does not give are 0.
 pub struct Four {
     pub refusal: u64,
     pub first: u64,

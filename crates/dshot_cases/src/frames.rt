@@ -54,7 +54,7 @@ pub(crate) fn packet(numbers: &[u64], inverted: bool) -> Verdict {
     judge(wide16(packet.0) == numbers[3])
 }
 
-// The lane that is asked for telemetry; none where `asked` is 0.
+// The lane that is asked for telemetry. If `asked` is 0, there is none.
 fn telemetry_lane(asked: u64, lane: u64) -> TelemetryLane {
     if asked == 0 {
         return TelemetryLane::None;

@@ -1,9 +1,9 @@
-// Replays stored answers of the calls of dshot_reply and dshot: makes each call again, and reports the records whose answer differs.
+// Replays stored answers of the calls of dshot_reply and dshot. It makes each call again, and reports the records whose answer differs.
 //
-// The list of records comes on standard input, as text of at most 131071 bytes. A line holds one record or none. A record is unsigned decimal
-// numbers with spaces between them, and its first number is the kind of call; `records.rt` says where each kind is. `#` starts a comment,
-// up to the end of its line. A record that cannot be read ends the run. The stored list has records that are wrong on purpose, at least one for
-// each number that is compared, so that a comparison that is left out shows in what is printed.
+// The list of records comes on standard input, as text of at most 131071 bytes. A line holds one record or none. A record is unsigned decimal numbers
+// with spaces between them. Its first number is the kind of call; `records.rt` says where each kind is. `#` starts a comment, up to the end of its
+// line. A record that cannot be read ends the run. The stored list has records that are wrong on purpose, at least one for each number that is
+// compared. So if a comparison is left out, it shows in what is printed.
 
 mod answers;
 mod capture;
@@ -27,7 +27,7 @@ ghost use lib.ListN.{length};
 
 const MOST_BYTES: usize = 131072;
 
-// Replays the record of a line, if it has one; false where the run ends there.
+// Replays the record of a line, if it has one. If the run ends there, the answer is false.
 fn replay_line(
     line: &[u8],
     number: u64,
@@ -60,7 +60,7 @@ fn replay_list(text: &[u8]) {
     report::counts(&compared, &differing);
 }
 
-// Room for a list, and for one byte more: a list that fills it may be cut off.
+// Room for a list, and for one byte more. If a list fills it, it may be cut off.
 fn buffer() -> [u8; MOST_BYTES]
     ensures { λ r. ⌜ 131072 ≡ length r ⌝ }
 {

@@ -1,8 +1,8 @@
-// Replays one record, by its kind: 1 to 7 here, packets and timings in frames.rt, sequences in sequences.rt, throttles, commands and leases
-// in commands.rt, and the constants in constants.rt.
+// Replays one record, by its kind. Kinds 1 to 7 are here. Packets and timings are in frames.rt, sequences in sequences.rt, and the constants in
+// constants.rt. Throttles, commands and leases are in commands.rt.
 //
-// A refusal is 0 for none, or its number, and then the answer's other numbers are 0. EDT is 0 or 1. A capture is given as runs of equal
-// samples, at most 512 samples in all. A record is unreadable where it has too few or too many numbers, or one that the call cannot take.
+// A refusal is 0 for none, or its number. If it is not 0, the answer's other numbers are 0. EDT is 0 or 1. A capture is given as runs of equal
+// samples, at most 512 samples in all. A record is unreadable if it has too few or too many numbers, or one that the call cannot take.
 
 use crate::answers;
 use crate::capture;
@@ -137,7 +137,7 @@ fn simulate_into(
     judge(capture::same(out, stored))
 }
 
-// 7 LENGTH VALUE LEAD MASK REFUSAL RUNS (SAMPLE TIMES)*RUNS, where the runs are all of the buffer after the call
+// 7 LENGTH VALUE LEAD MASK REFUSAL RUNS (SAMPLE TIMES)*RUNS. The runs are all of the buffer after the call.
 fn simulated(numbers: &[u64]) -> Verdict {
     if numbers.len() < 7 {
         return Verdict::Unreadable;

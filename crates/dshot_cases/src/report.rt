@@ -4,7 +4,7 @@ use crate::verdict::Verdict;
 use case_text::widths::one_more;
 use libc::STDOUT_FILENO;
 
-// The kinds of records, and one more: the kinds count from 1.
+// The kinds of records, and one more, because the kinds count from 1.
 pub const KINDS: usize = 24;
 
 // Counts an answer of a kind. The first count is of all kinds.
@@ -22,7 +22,7 @@ fn print_line(words: &[u8], line: u64) {
     io::write_all(STDOUT_FILENO, b"\n");
 }
 
-// Counts and reports what came of a line; false where the run ends there.
+// Counts and reports what came of a line. If the run ends there, the answer is false.
 pub(crate) fn enter(
     verdict: Verdict,
     kind: u64,

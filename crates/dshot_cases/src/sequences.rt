@@ -24,7 +24,7 @@ fn encode_into(
     judge(capture::same(out, stored))
 }
 
-// 14 PACKET DUTY REFUSAL SLOT*, where the slots are all of the buffer after the call
+// 14 PACKET DUTY REFUSAL SLOT*. The slots are all of the buffer after the call.
 pub(crate) fn encoded(numbers: &[u64]) -> Verdict {
     if numbers.len() < 4 {
         return Verdict::Unreadable;
@@ -79,7 +79,7 @@ fn sequence_into(
     judge(capture::same(out, stored))
 }
 
-// 15 PACKET ARR ZERO ONE SAMPLE REFUSAL FIRST SLOT*, where the slots are all of the buffer after the call
+// 15 PACKET ARR ZERO ONE SAMPLE REFUSAL FIRST SLOT*. The slots are all of the buffer after the call.
 pub(crate) fn sequenced(numbers: &[u64]) -> Verdict {
     if numbers.len() < 8 {
         return Verdict::Unreadable;
