@@ -1,5 +1,4 @@
--- One number more, one interrupt more, one cycle more; orders and their numbers; what is known of slices that fit; and what a call returns and
--- leaves.
+-- One number more, one interrupt more, one cycle more. Orders and their numbers. What is known of slices that fit. What a call returns and leaves.
 -- Assumes nothing.
 use mathlib.Core.Path.{_≡_, _∙_, refl, sym, ap}
 use mathlib.Core.Bool.{Bool, true, false}

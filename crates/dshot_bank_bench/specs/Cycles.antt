@@ -1,5 +1,5 @@
--- Cycles of a bank, as the bench asks for them: each is calls of the bank, whose orders are added up, and all of them together leave a bank with
--- its buffers, and a sum.
+-- Cycles of a bank, as the benchmark needs them. Each cycle is some calls of the bank, whose orders are added up. All cycles together leave a bank
+-- with its buffers, and a sum.
 -- Assumes nothing.
 use Prim.Native.Nat.{ℕ, zero, suc, _+_, _*_, _/_, _%_, _^_}
 use mathlib.Core.Bool.{Bool, true, false, not}
@@ -19,39 +19,39 @@ use Rattle.dshot_bank.specs.declared.orders.Orders.{Orders}
 use Rattle.dshot_bank.specs.Orders.{held, ordersIn}
 use Rattle.dshot_bank_spec.specs.OrderNumber.{dutiesIn}
 
--- ---- the sum of what is ordered, modulo 2 ^ 32
+-- ---- the sum of the orders, modulo 2 ^ 32
 
 abbrev pub addAll : ℕ → List ℕ → ℕ
 addAll s [] = s
 addAll s (n ∷ ns) = addAll ((s + n) % 2 ^ 32) ns
 
--- the numbers of so many orders in one, seven bits each, the first lowest
+-- the numbers of the first n orders in one number, seven bits each, the first lowest
 abbrev pub numbersIn : ℕ → ℕ → List ℕ
 numbersIn zero codes = []
 numbersIn (suc n) codes = codes % 128 ∷ numbersIn n (codes / 128)
 
--- with the numbers of some orders, and their first duties
+-- the sum with the numbers of some orders and their first duties added
 abbrev pub told : ℕ → Orders → List ℕ → ℕ
 told s o duties = addAll (addAll s (numbersIn (o .count) (o .codes))) duties
 
 -- ---- calls and cycles
 
--- a bank with its buffers, and the sum of what it ordered so far
+-- a bank with its buffers, and the sum of its orders so far
 pub record Run : Type 0 where
   pub state : State
   pub sum : ℕ
 
--- what a call leaves, and orders
+-- the run after a call, with its orders added
 abbrev pub after : Run → Call → Run
 after r call =
     let x = step 4 (r .state) call in
     record { state = x .state; sum = told (r .sum) (held (ordersIn (x .answer))) (dutiesIn (ordersIn (x .answer))) }
 
--- what a call leaves that orders nothing
+-- the run after a call that orders nothing
 abbrev pub past : Run → Call → Run
 past r call = record { state = step 4 (r .state) call .state; sum = r .sum }
 
--- after i interrupts, of one lane after the other: each transfer is complete, and the lanes turn where they are asked to
+-- The run after i interrupts, of one lane after the other. Each transfer is complete. If the lanes are asked to turn, they turn.
 unfoldable pub interrupts : ℕ → Run → Run
 interrupts zero r = r
 interrupts (suc i) r = after (interrupts i r) (on-dma-interrupt (i % 4) true false true true)
@@ -60,13 +60,13 @@ interrupts (suc i) r = after (interrupts i r) (on-dma-interrupt (i % 4) true fal
 abbrev pub throttlesAt : List ℕ → ℕ → List ℕ
 throttlesAt xs n = getD xs (4 * n) 0 ∷ getD xs (4 * n + 1) 0 ∷ getD xs (4 * n + 2) 0 ∷ getD xs (4 * n + 3) 0 ∷ []
 
--- the throttles are renewed, all buffers are taken, each capture is there or none is, and the interrupts come; the clock is n
+-- One cycle at the clock n. The throttles are renewed, and all buffers are taken. Every capture is present, or none is. Then the interrupts come.
 abbrev pub cycle : List ℕ → Bool → ℕ → List ℕ → ℕ → ℕ → Run → Run
 cycle throttles present mask samples count n r =
     interrupts count
     (after (past r (command-throttles throttles n 10)) (service-call n (replicate 4 true) (replicate 4 present) (replicate 4 mask) samples))
 
--- after n cycles, each with its own four throttles and four windows
+-- the run after n cycles, each with its own four throttles and four windows
 unfoldable pub cycles : Bool → ℕ → ℕ → List ℕ → List ℕ → Run → ℕ → Run
 cycles present mask count throttles captures r zero = r
 cycles present mask count throttles captures r (suc n) =
@@ -78,12 +78,13 @@ start arr low high sample bidirectional b =
     let bank = fromLanes 4 (record { arr = arr; zeroHigh = low; oneHigh = high; replySampleArr = sample }) in
     past (record { state = record { bank = bank; buffers = b }; sum = 0 }) (enable-bidirectional bidirectional)
 
--- whether every slice has its length, where the captures are enough for n cycles
+-- whether every slice has its length, for captures of n cycles
 unfoldable pub fit : ℕ → ℕ → ℕ → ℕ → ℕ → Bool
 fit n throttles first second numbers =
     if eqb throttles (4 * n) then (if eqb first 64 then (if eqb second 64 then eqb numbers 24 else false) else false) else false
 
--- what as many cycles as there are captures for leave of a new bank, if every slice has its length; a flag of 0 is no
+-- The run of a new bank after as many cycles as there are captures for. If a slice has another length, the refusal is 13 (wrong length). In a flag, 0
+-- means no.
 unfoldable pub asked : ℕ → ℕ → ℕ → ℕ → ℕ → ℕ → ℕ → ℕ → List ℕ → List ℕ → List ℕ → List ℕ → List ℕ → Reply.Answer Run
 asked arr low high sample bidirectional present mask count throttles captures first second numbers =
     let n = length captures / 640 in
@@ -91,7 +92,7 @@ asked arr low high sample bidirectional present mask count throttles captures fi
     then Reply.given (cycles (not (eqb present 0)) mask count throttles captures (start arr low high sample (not (eqb bidirectional 0)) (record { first = first; second = second })) n)
     else Reply.refused wrongLength
 
--- ---- what is told of what is left
+-- ---- the numbers that are given of what is left
 
 abbrev pub firstOf : Run → List ℕ
 firstOf r = r .state .buffers .first
@@ -99,7 +100,7 @@ firstOf r = r .state .buffers .first
 abbrev pub secondOf : Run → List ℕ
 secondOf r = r .state .buffers .second
 
--- the speed that a reply reads as, or 0
+-- the speed that a reply reads as; 0 if it is no speed
 abbrev pub speed : Reply.Answer Reading → ℕ
 speed (Reply.given (erpm n)) = n
 speed (Reply.given (temp n)) = 0
@@ -110,11 +111,12 @@ speed (Reply.given (state n)) = 0
 speed (Reply.given edt) = 0
 speed (Reply.refused n) = 0
 
--- some counts of a bank, and the sum
+-- three counts of a bank, and the sum
 abbrev pub bankCounts : Stats → ℕ → List ℕ
 bankCounts s sum = s .framesStarted ∷ s .framesCompleted ∷ s .dmaFaults ∷ sum ∷ []
 
--- of a lane, by the kind of count: its completions, its good and its bad replies, the bad ones since the last good one, its speed; and one that is not of a lane
+-- One count, by its kind. The first kinds are a lane's completions, its good replies, its bad replies, its bad replies in a row, and its speed. The
+-- last is no count of a lane.
 abbrev pub countOf : ℕ → ℕ → LaneReply → ℕ → ℕ
 countOf kind completions reply other =
     if eqb kind 0 then completions else
@@ -124,7 +126,7 @@ countOf kind completions reply other =
     if eqb kind 4 then speed (reply .reply) else
     other
 
--- what would stand where there is no lane
+-- what stands in the place of a lane that does not exist
 abbrev pub noLane : LaneReply
 noLane = record { reply = Reply.given (erpm 0); valid = 0; invalid = 0; consecutiveInvalid = 0 }
 

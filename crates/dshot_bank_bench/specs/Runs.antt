@@ -1,4 +1,4 @@
--- A bank of the code with its sum in the terms of the definitions.
+-- What the code's bank and sum mean in the terms of the definitions.
 -- Assumes nothing.
 use Rattle.dshot_bank_spec.specs.State.{Buffers}
 use Rattle.dshot_bank.specs.States.{stateOf}

@@ -1,4 +1,4 @@
-// For bench/ alone: the cycles of a bank in a loop of the library's own, so that what is measured is the bank and not its calls from C.
+// Only for bench/: the cycles of a bank in a loop of the library's own. So the benchmark measures the bank, and not its calls from C.
 
 use dshot::DshotTiming;
 use dshot::MotorValues;
@@ -25,13 +25,13 @@ const WINDOWS: usize = 640;
 
 const LEASE_MS: u32 = 10;
 
-// A bank, and the sum of what it ordered so far.
+// A bank, and the sum of its orders so far.
 struct Run {
     pub bank: DshotBank,
     pub sum: u32,
 }
 
-// Each order is looked at, and its number added.
+// Looks at each order, and adds its number.
 fn add_orders(start: u32, orders: Orders) -> u32
     ensures { λ r. ⌜ r ≡ addAll start (numbersIn (orders .count) (orders .codes)) ⌝ }
 {
@@ -57,7 +57,7 @@ fn add_duties(sum: u32, duties: MotorValues) -> u32
 }
 
 impl Run {
-    // An interrupt of a lane: its transfer is complete, and the lanes turn where they are asked to.
+    // An interrupt of a lane. Its transfer is complete. If the lanes are asked to turn, they turn.
     fn interrupt(self, lane: usize) -> Self
         ensures { λ r. ⌜ ((b : Buffers) → runOf r b ≡ after (runOf self b) (on-dma-interrupt lane true false true true)) ⌝ }
     {
@@ -69,7 +69,7 @@ impl Run {
         Run { bank, sum }
     }
 
-    // Of one lane after the other.
+    // Interrupts of one lane after the other.
     fn interrupts(self, count: usize) -> Self
         ensures { λ r. ⌜ ((b : Buffers) → runOf r b ≡ Spec.interrupts count (runOf self b)) ⌝ }
     {
@@ -82,7 +82,7 @@ impl Run {
         run
     }
 
-    // The throttles are renewed.
+    // Renews the throttles.
     fn throttle(self, throttles: MotorValues, now_ms: u64) -> Self
         ensures { λ r. ⌜ ((b : Buffers) → runOf r b ≡ past (runOf self b) (command-throttles throttles «now_ms» 10)) ⌝ }
     {
@@ -92,7 +92,7 @@ impl Run {
         Run { bank, sum }
     }
 
-    // A frame set is sent: all buffers are taken, and each capture is there or none is.
+    // Sends a frame set. All buffers are taken. Every capture is present, or none is.
     fn serve(
         self,
         now_ms: u64,
@@ -140,7 +140,7 @@ impl Run {
     }
 }
 
-// So many cycles, each with its own four throttles and four windows.
+// Makes some cycles, each with its own four throttles and four windows.
 fn cycles_from(
     start: Run,
     cycles: usize,
@@ -182,7 +182,7 @@ fn cycles_from(
     run
 }
 
-// The speed that a reply reads as, or 0.
+// The speed that a reply reads as; 0 if it is no speed.
 fn speed_of(reply: StoredReply) -> u32
     ensures { λ r. ⌜ r ≡ speed (storedAnswer reply) ⌝ }
 {
@@ -257,7 +257,7 @@ fn lengths_fit(cycles: usize, throttles: usize, first: usize, second: usize, cou
     counts == 24
 }
 
-// A new bank with its timing, bidirectional where the flag is not 0. Nothing is ordered yet.
+// A new bank with its timing. If the flag is not 0, it is bidirectional. Nothing is ordered yet.
 fn new_run(
     arr: u16,
     zero_high: u16,
@@ -278,8 +278,8 @@ fn new_run(
     Run { bank, sum: 0 }
 }
 
-// As many cycles of a new bank as there are captures for, 640 samples each, with four throttles each: what is left in the two buffers, and 24
-// numbers of the bank. A flag of 0 is no, any other yes.
+// Makes as many cycles of a new bank as there are captures for. Each cycle has 640 samples and four throttles. The call leaves the two buffers, and
+// 24 numbers of the bank. In a flag, 0 means no, and any other number means yes.
 #[no_mangle]
 pub extern "C" fn bench_bank_cycles(
     arr: u16,

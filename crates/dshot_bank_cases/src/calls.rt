@@ -2,7 +2,7 @@
 // and 18 to 20 in sets.rt.
 //
 // A line is unreadable if its code is none of these, or if it has too few or too many numbers. It is also unreadable if the call cannot take one of
-// its numbers: one out of range for its type, a flag above 1, or a length above that of the buffers here.
+// its numbers. Such a number is too large for its type, is a flag above 1, or is a length above that of the buffers here.
 
 use crate::demands;
 use crate::interrupts;

@@ -1,4 +1,4 @@
--- The laws of parts of one width that are joined, for every count: their length, and what a loop that puts them in their places keeps.
+-- The laws of parts of one width that are joined, for every count. They give the length, and what a loop that puts the parts in their places keeps.
 -- Assumes nothing.
 use mathlib.Core.Path.{_≡_, _∙_, sym, ap}
 use mathlib.Core.List.{List, _++_, append-nil, append-assoc}

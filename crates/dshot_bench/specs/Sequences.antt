@@ -1,4 +1,4 @@
--- The sequences of four packets, one after the other, as the bench asks for them.
+-- The sequences of four packets, one after the other, as the benchmark needs them.
 -- Assumes nothing.
 use Prim.Native.Nat.{ℕ, zero, suc}
 use mathlib.Core.List.{List, [], _++_}
@@ -15,7 +15,7 @@ use Rattle.dshot_spec.specs.Timing.{Timing}
 abbrev pub timingOfCounts : ℕ → ℕ → ℕ → ℕ → Timing
 timingOfCounts arr low high sample = record { arr = arr; zeroHigh = low; oneHigh = high; replySampleArr = sample }
 
--- the words of the packets, if every buffer has its length
+-- the words of the packets; if a buffer has another length, the refusal is 13 (wrong length)
 unfoldable pub built : List ℕ → TelemetryLane → List ℕ → List ℕ → Answer (List ℕ)
 built values telemetryLane slots firsts =
     if eqb (length values) 4 then
@@ -25,7 +25,7 @@ built values telemetryLane slots firsts =
     refused wrongLength) else
     refused wrongLength
 
--- f 0, f 1, .. f (n - 1), joined
+-- f 0, f 1, up to f (n - 1), joined
 unfoldable pub joined : ℕ → (ℕ → List ℕ) → List ℕ
 joined zero f = []
 joined (suc n) f = joined n f ++ f n
@@ -34,6 +34,6 @@ joined (suc n) f = joined n f ++ f n
 abbrev pub slotsOf : Timing → List ℕ → List ℕ
 slotsOf t words = joined 4 (λ i. sequenceOf t (getD words i 0) .slots)
 
--- their first duties
+-- the first duties of the words' sequences
 abbrev pub firstsOf : Timing → List ℕ → List ℕ
 firstsOf t words = tabulate 4 (λ i. sequenceOf t (getD words i 0) .first)

@@ -1,5 +1,5 @@
-// For bench/ alone: the packets of four motors and their sequences, built by the library's own code, so that what is measured is that and not
-// the way to five calls from C.
+// Only for bench/: the packets of four motors and their sequences, built by the library's own code. So the benchmark measures that code, and not five
+// calls from C.
 
 use dshot::DshotPacket;
 use dshot::DshotTiming;

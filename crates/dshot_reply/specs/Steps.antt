@@ -31,7 +31,7 @@ closed bits w =
     if ltb bits REPLY-BITS then given (w * 2 ^ (REPLY-BITS - bits) + 2 ^ (REPLY-BITS - bits - 1)) else
     given w
 
--- the simulated ESC's refusal of a buffer of n samples, a lead and a mask, at s samples a bit; 0 if it does not refuse
+-- the simulated ESC's refusal of a buffer of n samples, a lead and a mask, at s samples a bit; else 0
 unfoldable pub simulatedRefusal : ℕ → ℕ → ℕ → ℕ → ℕ
 simulatedRefusal s n lead mask =
     if ltb n (lead + MAX-REPLY-SAMPLES s) then wrongLength else

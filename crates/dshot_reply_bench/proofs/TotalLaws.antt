@@ -1,4 +1,4 @@
--- The sum over the words from a place on, one word at a time; and the numbers of refusals are small.
+-- The sum over the words from a place on, one word at a time. The numbers of refusals are small.
 -- Assumes nothing.
 use mathlib.Core.Path.{_≡_}
 use mathlib.Core.List.{List}

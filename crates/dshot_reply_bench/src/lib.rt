@@ -1,11 +1,11 @@
-// For bench/ alone: many calls of one function in a loop of the library's own, so that what is measured is the call and not the way to it from C.
+// Only for bench/: many calls of one function in a loop of the library's own. So the benchmark measures the call, and not the way to it from C.
 
 use dshot_reply::Decoded;
 ghost use mathlib.Core.Path.{_≡_};
 ghost use Rattle.dshot_reply_spec.specs.Gcr.{decodeWord};
 ghost use Rattle.dshot_reply_bench.specs.Total.{packed, totalFrom};
 
-// What a word decodes to, as one number: the value, or the refusal's number above sixteen bits.
+// What a word decodes to, as one number: the value, or 65536 x the refusal's number.
 fn decoded(word: u32) -> u32
     ensures { λ r. ⌜ r ≡ packed (decodeWord word) ⌝ }
 {
