@@ -229,8 +229,8 @@ uint32_t kuzhenga_four_motor_bidirectional_packets(const uint16_t *values, size_
                                                    size_t telemetry_lane, uint16_t *packets,
                                                    size_t packets_len /* 4 */);
 
-/* Reads a packet: 13 WRONG_LENGTH, 15 PACKET_CHECKSUM. A number above 65535 is refused with 15 too. The three slots
- * take the value, the request bit, and the kind of checksum: 0 for plain, 1 for inverted. */
+/* Reads a packet: 13 WRONG_LENGTH, 15 PACKET_CHECKSUM. A number above 65535 is refused with 15 PACKET_CHECKSUM too. The
+ * three slots take the value, the request bit, and the kind of checksum: 0 for plain, 1 for inverted. */
 #define KUZHENGA_FRAME_READ_SLOTS 3
 KUZHENGA_CHECK
 uint32_t kuzhenga_read_packet(uint32_t packet, uint16_t *frame, size_t frame_len /* 3 */);
@@ -267,7 +267,7 @@ uint32_t kuzhenga_encode_compare_sequence(uint32_t packet, const uint16_t *timin
                                           size_t dma_output_len /* 16 */);
 
 /* Reads a sequence into the slots of kuzhenga_read_packet: 13 WRONG_LENGTH, 14 WRONG_DUTY, 15 PACKET_CHECKSUM. A first
- * duty above 65535 is refused with 14 too. `timing` is the timing that the sequence was made with. */
+ * duty above 65535 is refused with 14 WRONG_DUTY too. `timing` is the timing that the sequence was made with. */
 KUZHENGA_CHECK
 uint32_t kuzhenga_read_compare_sequence(uint32_t first, const uint16_t *dma_output, size_t dma_output_len /* 16 */,
                                         const uint16_t *timing, size_t timing_len /* 4 */, uint16_t *frame,
@@ -347,8 +347,8 @@ uint32_t kuzhenga_bank_from_lanes(const uint16_t *timing, size_t timing_len /* 4
                                   size_t bank_len /* 97 */);
 
 /* Switches to bidirectional DShot: 13 WRONG_LENGTH, 22 REPLIES_UNSUPPORTED. The flag says whether every lane can
- * receive replies. If it is 0, the call refuses with 22. Call it before the first frame; a later call is not
- * refused. */
+ * receive replies. If it is 0, the call refuses with 22 REPLIES_UNSUPPORTED. Call it before the first frame; a later
+ * call is not refused. */
 KUZHENGA_CHECK
 uint32_t kuzhenga_bank_enable_bidirectional(uint16_t *bank, size_t bank_len, uint32_t receives_replies);
 
