@@ -91,7 +91,7 @@ module _ {fits : Bool} {call : Call} {b : Buffers} (xs : List ℕ) where
     written = m .keeps;
   }
 
--- the answer alone, beside all of it
+-- only the answer, beside the whole promise
 pub with-answer : {fits : Bool} {call : Call} {xs ys : List ℕ} {r : ℕ} → ((b : Buffers) → Called fits call b xs ys r)
     → ((b : Buffers) → r ≡ number (answerOf fits (stateAt xs b) call)) × ((b : Buffers) → Called fits call b xs ys r)
 with-answer h = (λ b. h b .answer, h)

@@ -125,7 +125,7 @@ pub demand-parts : {ys zs values : List ℕ} (xs commands : List ℕ) (now d : �
 demand-parts xs commands now d n h k v e f =
     moves-at (sym (f ∙ ap (write (longRows LEASE-OVER (d + 1))) (e ∙ ap (λ (l : List ℕ). write (longRows LEASE-STARTED now) (write (valueRows l) xs)) v))) (demand-set xs n commands now d h k)
 
--- ---- what the slots tell
+-- ---- what the slots say
 
 -- whether there is something in a slot
 pub some-kept : {A : Type 0} (k : ℕ) (x : A) → (k ≡ 0 → ⊥) → isSome (pick (eqb k 0) none (some x)) ≡ true
@@ -149,7 +149,7 @@ module _ (xs : List ℕ) where
   unfolding load
   lease-runs h = on _ _ (some-kept (Memory.long LEASE-OVER (at xs)) _ h) refl
 
-  -- no lease: the values tell
+  -- without a lease, the values decide
   pub values-run : {r : Bool} → length xs ≡ slots → Memory.long LEASE-OVER (at xs) ≡ 0 → r ≡ any (ltb 0) (take 4 (drop VALUES xs)) → r ≡ isRunning (load xs .core .demand)
   unfolding load
   values-run n h e = off _ _ (none-kept (Memory.long LEASE-OVER (at xs)) _ h) (e ∙ ap (any (ltb 0)) (sym (values-part n)))

@@ -30,7 +30,7 @@ module _ (xs : List ℕ) where
   abbrev rows : ℕ → List Row
   rows lane = wordRows (LANE-COMPLETIONS + 2 * lane) (count lane)
 
-  -- a lane where all but the two halves of the count computes
+  -- a lane for which everything except the two halves of the count computes
   known : (lane : ℕ) → length xs ≡ slots → within (rows lane) slots ≡ true
       → bankAt (over (rows lane) (at xs)) ≡ counted lane (count lane / 65536 * 65536 + count lane % 65536) (bankAt (at xs))
       → counted lane (count lane) (bankAt (at xs)) ≡ onCore (λ (c : Core). withStats (countCompletion lane (c .stats)) c) (bankAt (at xs))

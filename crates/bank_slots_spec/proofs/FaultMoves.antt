@@ -85,7 +85,7 @@ length-bumped : (b : Bool) (k : ℕ) (xs : List ℕ) → length (pick b (bumped 
 length-bumped true k xs = length-write (wordRows k (wrappingAdd (word k (at xs)))) xs
 length-bumped false k xs = refl
 
--- a count that is raised where a test holds
+-- a count that is raised if a test holds
 pub bumped-if : (f : Core → Core) (b : Bool) (k : ℕ) (xs : List ℕ) → Moves (onCore f) xs (bumped k xs) → Moves (onCore (corePick b f)) xs (pick b (bumped k xs) xs)
 bumped-if f true k xs m = m
 bumped-if f false k xs m = stays refl
@@ -97,7 +97,7 @@ fault-counts false true c e = ap (λ (f : Bool). withStats (countFault f true (c
 fault-counts false false c e = ap (λ (f : Bool). withStats (countFault f false (c .stats)) c) (sym e)
 
 module _ (xs ys zs : List ℕ) (n : length xs ≡ slots) where
-  -- counted once where it is the first fault, and once more where an interrupt was spurious
+  -- The first fault is counted once. If an interrupt was spurious, that is counted too.
   pub fault-counted : (first spurious : Bool) → first ≡ eqb (at xs FAULTED) 0
       → ys ≡ pick first (bumped DMA-FAULTS xs) xs → zs ≡ pick spurious (bumped SPURIOUS ys) ys → Moves (onCore (faultCounted spurious)) xs zs
   unfolding load

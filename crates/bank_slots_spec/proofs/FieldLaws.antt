@@ -149,7 +149,7 @@ choice-fits n = side (eqb n 0)
 
 -- ---- a motor's run or none
 
--- the run that five slots are, where there is one
+-- the run that five slots are, if there is one
 abbrev someRun : ℕ → ℕ → ℕ → ℕ → ℕ → MotorRun
 someRun motor first second index left = record {
   motor = (motor - 1) % 4;

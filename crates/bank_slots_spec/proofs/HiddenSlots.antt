@@ -40,7 +40,7 @@ parts n i a a′ t t′ l l′ front back = side (decLt i n)
     side (yes p) = List·getD-append a t 0 i (omega arith) ∙ front p ∙ sym (List·getD-append a′ t′ 0 i (omega arith))
     side (no q) = let p : n ≤ i = omega arith in behind a t l p ∙ back p ∙ sym (behind a′ t′ l′ p)
 
--- four parts of n entries, the same but for one lane's
+-- four parts of n entries, the same except one lane's
 module _ (lane n : ℕ) (f g : ℕ → List ℕ) (long : (k : ℕ) → length (f k) ≡ n) (long′ : (k : ℕ) → length (g k) ≡ n)
     (other : (k : ℕ) → (k ≡ lane → ⊥) → f k ≡ g k) where
   -- part k, of whose entries the j-th is looked at
@@ -127,7 +127,7 @@ counts-told lane r i h =
     last q (yes d) = count-told lane c (i - 8 - 8) (λ w. h (omega (arith, w)))
     last q (no d) = List·getD-eq-default (told c′) 0 {n = i - 8 - 8} (omega arith) ∙ sym (List·getD-eq-default (told c) 0 {n = i - 8 - 8} (omega arith))
 
--- a slot of an answer that does not tell of the lane
+-- a slot of an answer that says nothing of the lane
 out-told : (lane : ℕ) (a : Answer) (out : List ℕ) (i : ℕ) → (Tells lane a i → ⊥) → at (outAfter (hideAnswer lane a) out) i ≡ at (outAfter a out) i
 unfolding outAfter
 out-told lane done out i h = refl
@@ -157,7 +157,7 @@ out-long lane (values v) out = refl
 out-long lane (reply-counts r) out = refl
 out-long lane (slots l) out = refl
 
--- which slots these are, and the number of a refusal, a hidden answer tells as well
+-- A hidden answer also says which slots these are, and the number of a refusal.
 tells-hidden : (lane : ℕ) (a : Answer) (i : ℕ) → Tells lane (hideAnswer lane a) i ≡ Tells lane a i
 tells-hidden lane done i = refl
 tells-hidden lane (Call.refused n) i = refl

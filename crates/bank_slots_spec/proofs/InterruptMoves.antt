@@ -94,7 +94,7 @@ module _ (xs ys zs : List ℕ) (n : length xs ≡ slots) where
       ∙ ap (λ (c : Core). withCore c (load xs)) (counts-sent lane (load xs .core .frame .receiving) (maskSet mask (load xs .core)) refl)
       ∙ ap (λ (v : ℕ). onCore (λ (c : Core). withStats (if c .frame .receiving then c .stats else countCompletion lane (c .stats)) (maskSet v c)) (load xs)) e)
 
--- ---- what an interrupt does and tells
+-- ---- what an interrupt does and answers
 
 -- another name of the interrupt, at the core that it starts from
 pub handles-as : {f g : Core → Interrupted} {xs ys out : List ℕ} → Handles f xs ys out → f (load xs .core) ≡ g (load xs .core) → Handles g xs ys out
@@ -111,7 +111,7 @@ handles-after {f} m h = record {
 }
 
 module _ (lane : ℕ) where
-  -- what is told: the lane's pause alone, with one order for all lanes, with the orders of a latched fault, and with both
+  -- What is answered: only the lane's pause, the pause with one order for all lanes, with the orders of a latched fault, or with both.
   abbrev pausedSlots : ℕ → List ℕ
   pausedSlots event = event ∷ 1 ∷ (48 + lane) ∷ 0 ∷ 0 ∷ 0 ∷ 0 ∷ 0 ∷ 0 ∷ []
 

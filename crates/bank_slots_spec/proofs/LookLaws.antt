@@ -99,7 +99,7 @@ run-there true run = refl
 run-there false run = refl
 
 module _ (xs out : List ℕ) where
-  -- the flag in slot k is told, where both slices fit
+  -- If both slices fit, the flag in slot k is the answer.
   abbrev Told : ℕ → List ℕ → ℕ → Type 0
   Told k after r = (r ≡ pick (fit xs (sized 1 out)) 0 13) × (after ≡ pick (fit xs (sized 1 out)) (bit (flag (at xs k)) ∷ []) out)
 
@@ -132,7 +132,7 @@ module _ (xs out : List ℕ) (n : length xs ≡ Places.slots) where
   abbrev pub copied : ℕ → ℕ → List ℕ → List ℕ
   copied from to before = write (wordRows to (word from (at xs))) before
 
-  -- the counts, which stand in the state as they are told
+  -- the counts, which stand in the state as in the answer
   pub stats-told : Below xs → length out ≡ 22 → {after : List ℕ} → after ≡ take 22 (drop FRAMES-STARTED xs) → Looks stats 22 xs out after 0
   unfolding step portRefusal load tabulate
   stats-told low l h =
@@ -250,7 +250,7 @@ module _ (xs out : List ℕ) where
     take-short h = (λ b. called-unfit xs (other-long xs out 17 n h), look-short take-replies 17 xs out n h .1)
 
     module _ (l : length out ≡ 17) where
-      -- what is taken where some are held, and where none are
+      -- what is taken if some are held, and if none are
       abbrev taken : Bool → Option (List (Reply.Answer Reading))
       taken held = if held then some (repliesOf (four (laneAt (at xs)))) else none
 
@@ -261,7 +261,7 @@ module _ (xs out : List ℕ) where
         look-told take-replies 17 xs out n l (replied (taken held)) (λ b. ap (λ (t : Bool). replied (taken t)) e) refl h .1,
       )
 
-      -- the reply that is handed out of the lane whose slots begin there: none where none are held
+      -- The reply that is handed out of the lane whose slots begin there. If none are held, it is no reply.
       abbrev pub handed : Bool → ℕ → Reply.Answer Reading
       handed held from = if held then reply (at xs from) (word (from + 1) (at xs)) else refused noReply
 

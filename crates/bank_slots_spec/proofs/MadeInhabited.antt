@@ -103,7 +103,7 @@ module _ (lane : ℕ) (l : lane < 4) (now : ℕ) (xs xs′ s s′ : List ℕ)
       (wired now (taken xs)
       (λ i ne. four-but false (λ (k : ℕ). flag (getD xs (4 + k) 0)) (λ (k : ℕ). flag (getD xs′ (4 + k) 0)) lane shown i (omega arith)) captures)
 
-  -- and alike as document 01 has it, where the lane's capture is present in both or in neither
+  -- If the lane's capture is present in both or in neither, they are alike in document 01's sense.
   pub slices-alike : Flagged (4 + lane) → Alike lane (served xs s) (served xs′ s′)
   slices-alike e =
       subst (λ (t : List Bool). Alike lane (served xs s) (service-call now t (present xs′) (masks xs′) s′)) took

@@ -78,6 +78,6 @@ write-agrees rows xs h a =
 pub word-back : (n : ℕ) → n / 65536 * 65536 + n % 65536 ≡ n
 word-back n = div-add-mod' n 65536
 
--- a word fits where its second slot does
+-- a word fits if its second slot does
 pub within-word : (k n l : ℕ) → k + 1 < l → within (wordRows k n) l ≡ true
 within-word k n l h = sym (on _ _ (lt-ltb k l (omega arith)) (on _ _ (lt-ltb (k + 1) l h) refl))

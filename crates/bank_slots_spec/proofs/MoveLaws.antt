@@ -26,7 +26,7 @@ moves-write {f} rows xs n h e w =
     let o = at-write rows xs (subst (λ (k : ℕ). within rows k ≡ true) (sym n) h) in
     record { loads = ap bankAt o ∙ e; keeps = λ p. subst WrittenAt (sym o) (w p) }
 
--- the same where the slots after are known by an equation
+-- the same if an equation gives the slots after the step
 pub moves-by : {f : Bank → Bank} {ys : List ℕ} (rows : List Row) (xs : List ℕ) → ys ≡ write rows xs → length xs ≡ slots → within rows slots ≡ true
     → bankAt (over rows (at xs)) ≡ f (bankAt (at xs))
     → (WrittenAt (at xs) → WrittenAt (over rows (at xs)))

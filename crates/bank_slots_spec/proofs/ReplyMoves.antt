@@ -131,7 +131,7 @@ halves-written : (a : Answer Reading) → ReplyFits a → isReply (replyKind a) 
 halves-written a h = ap (isReply (replyKind a)) (word-back (replyNumber a)) ∙ reply-written a h
 
 module _ (xs : List ℕ) (n : length xs ≡ slots) (l : LaneReply) (f : ReplyFits (l .reply)) where
-  -- a lane where all but the halves of its numbers computes
+  -- a lane for which everything except the halves of its numbers computes
   known : (i : ℕ) → within (laneRows (REPLIES + 9 * i) l) slots ≡ true
       → bankAt (over (laneRows (REPLIES + 9 * i) l) (at xs)) ≡ laneSet i (readBack l) (bankAt (at xs))
       → (WrittenAt (at xs) → WrittenAt (over (laneRows (REPLIES + 9 * i) l) (at xs)))
@@ -183,7 +183,7 @@ module _ (lanes samples : List ℕ) where
         let m₃ : Moves (laneCounted 3 (readOf lanes samples 3)) xs ys = moves-as (moves-at (sym e₃) (lane-3 xs n₃ (countReply (readOf lanes samples 3) (laneFrom (REPLIES + 27) (at xs))) (read-fits 3 (laneFrom (REPLIES + 27) (at xs))))) refl in
         moves-as (moves-then m₀ (moves-then m₁ (moves-then m₂ m₃))) refl
 
--- ---- the windows, where they wait
+-- ---- the windows, if they wait
 
 abbrev heldRows : List Row
 heldRows = (REPLIES-WAITING holds 0) ∷ (REPLIES-HELD holds 1) ∷ []

@@ -48,7 +48,7 @@ abbrev runNext : Core → Core
 runNext c = withCommandSequence (nextOfRun (c .commandSequence) .left) c
 
 module _ (xs : List ℕ) where
-  -- the run in the slots, where there is one, and its next frame
+  -- the run in the slots, if there is one, and its next frame
   next-there : (at xs RUN ≡ 0 → ⊥) → {next : Next} → next ≡ nextValue 10 (runFrom (RUN + 1) (at xs))
       → nextOfRun (load xs .core .commandSequence) ≡ nextOf ((at xs RUN - 1) % 4) (next .command) (next .run)
   unfolding load
@@ -61,7 +61,7 @@ module _ (xs : List ℕ) where
   unfolding load
   sequence-none h = sym (on none (some (record { motor = (at xs RUN - 1) % 4; sequence = runFrom (RUN + 1) (at xs) })) (eq-eqb (at xs RUN) 0 h) refl)
 
--- what a step of a run answers, and what it leaves: the run after it, or none where it is spent
+-- What a step of a run answers, and what it leaves: the run after it. If the run is spent, it leaves none.
 pub run-next : (xs : List ℕ) {ys : List ℕ} → (at xs RUN ≡ 0 → ⊥) → (next : Next) → next ≡ nextValue 10 (runFrom (RUN + 1) (at xs)) → {k : Command} → next .command ≡ k
     → Moves (onCore (withCommandSequence (nextOf ((at xs RUN - 1) % 4) k (next .run) .left))) xs ys
     → (nextOf ((at xs RUN - 1) % 4) k (next .run) .command ≡ nextOfRun (load xs .core .commandSequence) .command) × Moves (onCore runNext) xs ys
@@ -146,7 +146,7 @@ module _ (xs : List ℕ) where
 abbrev markSet : ℕ → Bool → Core → Core
 markSet i v c = withFrame (withInSecond (tabulate 4 (λ (k : ℕ). pick (eqb k i) v (getD (c .frame .inSecond) k false))) (c .frame)) c
 
--- and turned where a test holds
+-- a mark that turns if a test holds
 abbrev markTurned : ℕ → Bool → Core → Core
 markTurned i b c = markSet i (pick b (not (getD (c .frame .inSecond) i false)) (getD (c .frame .inSecond) i false)) c
 
@@ -267,7 +267,7 @@ frame-starts now ordinary a b c = moves-as (moves-then a (moves-then b c)) refl
 
 -- ---- the numbers of orders
 
--- an order to exchange: the first buffer where the lane sends from the second, and the other way round
+-- An order to exchange. If the lane sends from the second buffer, it names the first, and the other way round.
 pub exchange-first : (lane : ℕ) (inSecond : Bool) → inSecond ≡ true → 8 + lane ≡ 8 * 1 + lane + 4 * bit (not inSecond)
 exchange-first lane true e = omega arith
 exchange-first lane false e = absurd (true≢false (sym e))
@@ -308,7 +308,7 @@ module _ (marks : List Bool) where
     unfolding tabulate
     refused-3 e h = h ∙ (λ j. p j ∷ q j ∷ s j ∷ t j ∷ 40 ∷ 48 ∷ 49 ∷ 50 ∷ 51 ∷ []) ∙ at-lane e
 
--- what is told of a refused exchange
+-- the answer if a lane refuses its buffer
 refused-told : (inSecond : List Bool) (lane : ℕ) → lane < 4
     → 3 ∷ (lane + 6) ∷ (codes 9 (codeGiven inSecond) (refusedOrders 4 lane) ++ replicate 4 0) ≡ serviceSlots faulted (refusedOrders 4 lane) inSecond
 unfolding tabulate
@@ -361,7 +361,7 @@ module _ (xs ys : List ℕ) (m : Option MotorCommand) (s : Stepped xs ys m) wher
           let mark = k ∙ kept (λ (c : Core). c .frame .inSecond) in
           e ∙ sym (on (encodeLanes 4 timing marks words b) b slots-fit refl) ∙ (λ j. encodeLanes 4 (time j) (mark j) (w j) b)
 
-  -- what is told, and what is left
+  -- what is answered, and what is left
   module _ (now : ℕ) (expired : Bool) (lanes : List ℕ) (b : Buffers) {b′ : Buffers} (q : b′ ≡ sentBuffers 4 before b) where
     abbrev Sends : List ℕ → List ℕ → Type 0
     Sends zs out = Serves (λ (k : Bank) (u : Buffers). sending 4 now (taken lanes) [] [] [] [] u expired (k .core) (k .replies)) b b′ xs zs out

@@ -65,7 +65,7 @@ holds (k ∷ ms) m rest (one-more {ys = ys} {b′ = b′} c e o n w p) =
 
 -- ---- the calls that fit
 
--- what `made` says, where it is told whether the slices fit
+-- what `made` says, once it is known whether the slices fit
 abbrev outcome : State → Made → Bool → Stepped
 outcome s m fits = pick fits (step 4 s (m .call)) (told s (refused wrongLength))
 
@@ -111,7 +111,7 @@ looks : (s : State) (ms : List Made) → madeTrace s (actingMade ms) ≡ actingM
 looks s [] = refl
 looks s (m ∷ ms) = one-look s m ms (isLook (m .call)) refl (λ t. looks t ms)
 
--- a look's promise, which speaks of its answer alone, is a call that leaves every slot
+-- The promise of a look speaks only of its answer. It is a call that leaves every slot.
 pub look-called : {fits : Bool} {call : Call} {b : Buffers} (xs : List ℕ) {r : ℕ} → isLook call ≡ true → r ≡ number (answerOf fits (stateAt xs b) call)
     → Called fits call b xs xs r
 unfolding bankAfter
@@ -168,7 +168,7 @@ act-keeps s reply-stats e = refl
 act-keeps s (sending motor) e = refl
 act-keeps s (lend buffers) e = cc
 
--- so the promise of a call that is lent none of them, which speaks of the state alone, is one call of a list
+-- So the promise of a call that is lent no buffers is one call of a list. That promise speaks only of the state.
 pub buffers-kept : (fits : Bool) (s : State) (call : Call) → fills call ≡ false → s .buffers ≡ buffersAfter fits s call
 unfolding buffersAfter
 buffers-kept true s call e = sym (either-step 4 s call (λ (r : Stepped). r .state .buffers ≡ s .buffers) (act-keeps s call e) refl)

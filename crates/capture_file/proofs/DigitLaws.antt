@@ -32,7 +32,7 @@ pub decimal-one : (x : ℕ) → x < 10 → decimal x ≡ digit x ∷ []
 unfolding decimalWithin
 decimal-one x h = rw (lt-ltb x 10 h)
 
--- where n digits are enough, one more changes nothing
+-- If n digits are enough, one more changes nothing.
 enough : (n x : ℕ) → x < 10 ^ suc n → decimalWithin (suc n) x ≡ decimalWithin (suc (suc n)) x
 unfolding decimalWithin
 enough zero x h = rw (lt-ltb x 10 h)

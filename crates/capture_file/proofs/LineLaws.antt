@@ -58,7 +58,7 @@ length-kind k =
     (λ g. rw (List·getD-eq-default kindTexts "" {n = k} g) zero-le)
     (lt-or-ge k 9)
 
--- no line has more than 29 bytes, whatever it tells: a word, a value, a debug channel and ten digits
+-- No line has more than 29 bytes, whatever it says: a word, a value, a debug channel and ten digits.
 pub line-fits : (a : Answer Listed) → length (lineOf a) ≤ 29
 unfolding lineOf
 line-fits (given l) =

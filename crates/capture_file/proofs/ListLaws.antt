@@ -24,7 +24,7 @@ module _ (bytes slots : List ℕ) where
       g ∙ sym (ap (λ (a : Answer Capture). padded (lineOf (andThen a listedCapture))) none)
 
   module _ (t : Told) (e : given t ≡ andThen (readInto bytes slots) told) where
-    -- the capture that was told of
+    -- the capture that the reader answered
     pub capture-of : (c : Capture) × (readInto bytes slots ≡ given c) × (told c ≡ given t)
     capture-of = then-given (readInto bytes slots) told (sym e)
 

@@ -112,7 +112,7 @@ longer-from b a r e =
 pub pos : (n : ℕ) → (n ≡ 0 → ⊥) → 0 < n
 pos n h = ⊎-elim (λ l. absurd (h (omega arith))) (λ l. l) (lt-or-ge n 1)
 
--- a first byte, where what holds of all holds of the bytes after it
+-- a first byte, if what holds of all holds of the bytes after it
 first-group : (b : ℕ) (s : List ℕ) (r : Headed) → b ≤ 255 → readGroups (b ∷ s) ≡ given r → r .number ≤ 65535
     → ((q : Headed) → readGroups s ≡ given q → q .number ≤ 65535 → s ≡ groups (q .number) ++ q .rest) → b ∷ s ≡ groups (r .number) ++ r .rest
 first-group b s r u e h again = ⊎-elim one more (lt-or-ge b 128)

@@ -59,7 +59,7 @@ nothing-left s i =
 
 -- ---- samples into slots
 
--- the numbers from place `at` on are put over the slots from i on, where the whole file's samples are to fill the first
+-- The numbers from place `at` on replace the slots from i on, if the whole file's samples are to fill the first slots.
 pub record Filling (bytes slots : List ℕ) (from count : ℕ) (now : List ℕ) (at i : ℕ) : Type 0 where
   pub left : List ℕ
   pub reads : readAll (count - i) (drop at bytes) ≡ given left

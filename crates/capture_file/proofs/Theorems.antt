@@ -43,7 +43,7 @@ longest c v = file-most c (v .count)
 pub only-refusal : (bytes : List ℕ) (n : ℕ) → readFile bytes ≡ refused n → n ≡ notACapture
 only-refusal bytes n e = same-refusal (readFile bytes) n (file-start bytes) e
 
--- each element within a bound, told by its place, as the bytes of a slice are
+-- each element within a bound, given by its place, as the bytes of a slice are
 pub up-to : (n : ℕ) (xs : List ℕ) → ((i : ℕ) → i < length xs → getD xs i 0 ≤ n) → UpTo n xs
 up-to n [] h = tt
 up-to n (x ∷ xs) h = (h zero (omega arith), up-to n xs (λ i l. h (suc i) (omega (arith, l))))

@@ -35,7 +35,7 @@ module _ (b : ℕ) (s : List ℕ) (i : ℕ) where
 
 -- ---- a number
 
--- the answer for a number that starts at `from`, where the bytes before place i have come to v and these digits are left
+-- the answer for a number that starts at `from`, if the bytes before place i give v and these digits are left
 unfoldable pub readDigits : List ℕ → ℕ → ℕ → ℕ → Read
 readDigits ds from v i = pick (ltb (numeral v ds) past64) (ended (numeral v ds) from (i + length ds)) Broken
 

@@ -330,7 +330,7 @@ viewAnswer-injective Views.NoSuchMotor Views.NoSuchMotor l m h = refl
 taken-injective : (a b : TakenReply) → replyAnswer (a .reply) ≡ replyAnswer (b .reply) → a ≡ b
 taken-injective a b h = λ j. record { reply = replyAnswer-injective (a .reply) (b .reply) h j }
 
--- replies that are held; where none are, `take_replies` promises what stands there
+-- replies that are held; if none are, `take_replies` promises what stands in their place
 pub takenAnswer-injective : (l m : List TakenReply) → takenAnswer true l ≡ takenAnswer true m → l ≡ m
 takenAnswer-injective l m h = map-injective (λ (t : TakenReply). replyAnswer (t .reply)) taken-injective l m (cc)
 

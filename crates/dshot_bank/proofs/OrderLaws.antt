@@ -80,7 +80,7 @@ module _ (d : List ℕ) where
       subst (λ (m : List Spec.Order). Kept d m) (sym (append-snoc (tabulate n f) (f n) l))
       (kept-lanes f own n (omega arith) (f n ∷ l) (kept-cons (f n) l (own n (omega arith)) k))
 
--- a list is whole where each of its orders comes back with the list's own first duties
+-- a list is whole if each of its orders comes back with the list's own first duties
 pub whole : (l : List Spec.Order) → Kept (dutiesIn l) l → Whole l
 unfolding held ordersOf
 whole l k = k
@@ -89,7 +89,7 @@ whole l k = k
 pub back : (o : Orders) (d : List ℕ) (l : List Spec.Order) → o ≡ held l → d ≡ dutiesIn l → Whole l → ordersOf o d ≡ l
 back o d l p q w = (λ j. ordersOf (p j) (q j)) ∙ w
 
--- and nothing stands beside it, where these are the orders of the answer
+-- and nothing stands beside it, if these are the orders of the answer
 pub just : (o : Orders) (d : List ℕ) (l : List Spec.Order) (a : Answer) → o ≡ held l → d ≡ dutiesIn l → ordersIn a ≡ l → Just o d a
 just o d l a p q e = record { number = p ∙ ap held (sym e); duties = q ∙ ap dutiesIn (sym e) }
 

@@ -20,7 +20,7 @@ use Rattle.dshot_bank.specs.Views.{shown}
 
 -- ---- arrays
 
--- which entry stands where there is none makes no difference where there is one
+-- If there is an entry, it makes no difference which one stands for a missing entry.
 pub getD-any : {A : Type 0} (l : List A) (i : ℕ) (d e : A) → i < length l → getD l i d ≡ getD l i e
 getD-any [] i d e h = absurd (omega arith)
 getD-any (x ∷ l) zero d e h = refl
@@ -81,7 +81,7 @@ module _ (n : ℕ) (s : State) (motor : ℕ) where
   unfolding step portRefusal
   sending-is e h = λ j. answered (sym e j) (sym h j)
 
-  -- where both hold, a lane's part of the buffer that its mark names is shown
+  -- if both hold, a lane's part of the buffer that its mark names is shown
   pub shown-so : {buffer : List ℕ} → buffer ≡ pick (getD (s .bank .core .frame .inSecond) motor false) (s .buffers .second) (s .buffers .first)
       → buffersFit n (s .buffers) ≡ true → ltb motor n ≡ true
       → take (16 * motor + 16 - 16 * motor) (drop (16 * motor) buffer) ≡ shown (step n s (sending motor) .answer)

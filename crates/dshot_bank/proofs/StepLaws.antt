@@ -75,7 +75,7 @@ missing-lane i e = picked (ltb i 4) e
     picked true h = absurd (Option·none-ne-some _ h)
     picked false h = refl
 
--- a call for one lane, of which the port refuses those that there are not
+-- a call for one lane; the port refuses a lane that does not exist
 module _ (s : State) (call : ℕ → Call) (refuses : (i : ℕ) → portRefusal 4 s (call i) ≡ laneRefusal 4 i) (i : ℕ) where
   -- a lane's motor: what the source does
   pub found-step : (m : DshotMotor) → some (motorOf m) ≡ motorAt i → act 4 s (call (motorOf m)) ≡ step 4 s (call i)

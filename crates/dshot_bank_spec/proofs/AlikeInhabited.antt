@@ -111,7 +111,7 @@ module _ (n lane : ℕ) (l : lane < n) where
   abbrev pub masksAt : ℕ → List ℕ
   masksAt v = butOne 1 v
 
-  -- every capture is present but, where b is false, the lane's
+  -- every capture is present; if b is false, the lane's is not
   abbrev pub serviceAt : Bool → ℕ → Call
   serviceAt b v = service-call 0 (replicate n true) (butOne true b) (masksAt v) (samplesAt v)
 

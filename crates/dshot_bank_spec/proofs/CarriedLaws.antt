@@ -74,12 +74,12 @@ module _ (n now : ℕ) (taken present : List Bool) (masks samples : List ℕ) (r
       served-core n now taken present masks samples replies buffers c f idle (λ (x : Core). x .telemetry) (send-starts n now taken before all)
       ∙ ap (λ (r : Option MotorCommand). carry (frameSet n before r .telemetryRequest) (before .telemetry)) e
 
-  -- where it sends a command, the request stays pending, and none is told as sent
+  -- if it sends a command, the request stays pending, and none counts as sent
   pub command-leaves : (m : MotorCommand) → nextCommandFrame before .command ≡ some m
       → left ≡ record { request = c .telemetry .request; requestSent = none }
   command-leaves m e = left-by (some m) e ∙ sending-telemetry
 
-  -- an ordinary frame carries it: it is told as sent, and no longer pending
+  -- an ordinary frame carries it: it counts as sent, and is no longer pending
   pub ordinary-carries : nextCommandFrame before .command ≡ none → (m : ℕ) → c .telemetry .request ≡ some m
       → left ≡ record { request = none; requestSent = some m }
   ordinary-carries e m q =
@@ -87,7 +87,7 @@ module _ (n now : ℕ) (taken present : List Bool) (masks samples : List ℕ) (r
       ∙ ap (λ (t : Telemetry). carry (t .request) t) sending-telemetry
       ∙ ap (λ (r : Option ℕ). carry r (record { request = r; requestSent = none })) q
 
-  -- and where none is pending none is told
+  -- and if none is pending, none counts as sent
   pub none-carried : nextCommandFrame before .command ≡ none → c .telemetry .request ≡ none → left ≡ record { request = none; requestSent = none }
   none-carried e q =
       left-by none e

@@ -111,7 +111,7 @@ pub set-ends : (c : Core) → Ended c (frameDone c)
 unfolding frameDone
 set-ends c = record { busy = refl; counted = refl }
 
--- and where a window closes, its replies wait
+-- and if a window closes, its replies wait
 pub record Closed (before after : Core) : Type 0 where
   pub ended : Ended before after
   pub receiving : after .frame .receiving ≡ false

@@ -20,7 +20,7 @@ module _ (n : ℕ) (s : State) where
   unfolding step portRefusal enableBidirectional
   enable-done = refl
 
-  -- it is then told as bidirectional
+  -- `is_bidirectional` then says yes
   pub enabled-told : step n (step n s (enable-bidirectional true) .state) is-bidirectional .answer ≡ flag true
   unfolding step portRefusal enableBidirectional
   enabled-told = refl

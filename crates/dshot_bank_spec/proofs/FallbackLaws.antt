@@ -15,7 +15,7 @@ pub release-due : (now last : ℕ) → (fallbackReleaseDue now last ≡ true) �
 unfolding fallbackReleaseDue
 release-due now last = (leb-true 2 (elapsed 32 last now), le-leb 2 (elapsed 32 last now))
 
--- so k milliseconds after a release it is due just where k is at least 2
+-- so k milliseconds after a release it is due exactly if k is at least 2
 pub release-after : (last k : ℕ) → last < 2 ^ 32 → k < 2 ^ 32 → fallbackReleaseDue ((last + k) % 2 ^ 32) last ≡ leb 2 k
 unfolding fallbackReleaseDue
 release-after last k small l = ap (leb 2) (elapsed-after 32 last small k l)

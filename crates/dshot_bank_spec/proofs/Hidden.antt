@@ -33,7 +33,7 @@ hidden-taken lane l m e = hidden-rest lane (Reply.refused noReply) (Reply.refuse
 pub hidden-none : (lane : ℕ) (l : List (Reply.Answer Reading)) → hideTaken lane none ≡ hideTaken lane (some l) → ⊥
 hidden-none lane l e = Option·none-ne-some _ e
 
--- the counts that are told
+-- the counts in an answer
 pub record SameCounts (k : ℕ) (r q : ReplyStats) : Type 0 where
   pub valid : getD (r .valid) k 0 ≡ getD (q .valid) k 0
   pub invalid : getD (r .invalid) k 0 ≡ getD (q .invalid) k 0
@@ -48,7 +48,7 @@ hidden-counts lane r q e k ne = record {
 
 -- ---- all else
 
--- two states that differ in the lane's record alone
+-- two states that differ only in the lane's record
 pub record SameElse (lane : ℕ) (s s′ : State) : Type 0 where
   pub core : s .bank .core ≡ s′ .bank .core
   pub buffers : s .buffers ≡ s′ .buffers
@@ -65,7 +65,7 @@ hidden-state lane s s′ e =
       others = hidden-replies lane (s .bank .replies) (s′ .bank .replies) h;
     }
 
--- whether an answer tells of replies or of their counts
+-- whether an answer has replies or their counts
 abbrev pub tellsReplies : Answer → Bool
 tellsReplies done = false
 tellsReplies (refused number) = false

@@ -30,7 +30,7 @@ use Rattle.dshot_bank_spec.proofs.Service.{serviceSend, serviceOpen}
 
 -- ---- the windows
 
--- another lane's window is the same where all samples outside this lane's are
+-- another lane's window is the same if all samples outside this lane's window are
 windows : (lane : ℕ) {m m′ s s′ : List ℕ} → CapturesAlike lane m m′ s s′ → (k : ℕ) → (k ≡ lane → ⊥) → window s k ≡ window s′ k
 windows lane {s = s} {s′ = s′} h k ne =
     ext-getD 0 (window s k) (window s′ k) (simp (length-take, length-drop) (rw (h .long)))
@@ -53,7 +53,7 @@ hideServed lane z = record {
   buffers = z .buffers;
 }
 
--- a test picks alike where both sides are alike
+-- a test picks alike if both sides are alike
 picked : {A B : Type 0} (f : A → B) (b : Bool) (x x′ y y′ : A) → f x ≡ f x′ → f y ≡ f y′ → f (pick b x y) ≡ f (pick b x′ y′)
 picked f true x x′ y y′ p q = p
 picked f false x x′ y y′ p q = q
@@ -112,7 +112,7 @@ module _ (n lane : ℕ) (s s′ : State) (e : hideState lane s ≡ hideState lan
   old : hideReplies lane (s .bank .replies) ≡ hideReplies lane (s′ .bank .replies)
   old = ap (λ (x : State). x .bank .replies) e
 
-  -- two calls that the port refuses alike, and of which the source makes what is alike
+  -- two calls that the port refuses alike, and for which the source's results are alike
   abbrev AlikeActs : Call → Call → Type 0
   AlikeActs c c′ = (portRefusal n s c ≡ portRefusal n s′ c′) × (hide lane (act n s c) ≡ hide lane (act n s′ c′))
 
@@ -127,7 +127,7 @@ module _ (n lane : ℕ) (s s′ : State) (e : hideState lane s ≡ hideState lan
   answered-alike (given c) = λ j. changed (e j) done c
   answered-alike (Reply.refused k) = λ j. told (e j) (refused k)
 
-  -- a core is made of the core alone
+  -- the core that a call makes depends only on the core before it
   commanded-alike : (f : Core → Reply.Answer Core) → hide lane (commanded s (f (s .bank .core))) ≡ hide lane (commanded s′ (f (s′ .bank .core)))
   commanded-alike f = answered-alike (f (s .bank .core)) ∙ ap (λ (x : State). hide lane (commanded s′ (f (x .bank .core)))) e
 

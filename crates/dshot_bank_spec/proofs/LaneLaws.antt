@@ -127,7 +127,7 @@ set-tabulate {A} n lane z f g h =
     at k l (no p) (yes q) = apart k l (λ e. omega arith)
     at k l (no p) (no q) = let e : k ≡ lane = omega arith in here f k l e ∙ sym (here g k l e)
 
--- a function of every entry, where one was replaced
+-- a function of every entry, if one was replaced
 pub map-set : {A B : Type 0} (f : A → B) (l : List A) (i : ℕ) (y : A) → map f (set l i y) ≡ set (map f l) i (f y)
 map-set f [] i y = refl
 map-set f (x ∷ xs) zero y = refl

@@ -64,7 +64,7 @@ module _ (n now : ℕ) (c : Core) (e : demandExpired now (c .demand) ≡ true) w
       side true r k = refl
       side false r k = ap (λ (x : Option MotorRun). nextOfRun x .command) k
 
--- what holds of the second of two, where a test picks that
+-- what holds of the second of two, if a test picks that
 otherwise : {A : Type 0} (P : A → Type 0) (b : Bool) (x : A) {y : A} → b ≡ false → P y → P (pick b x y)
 otherwise P true x e k = absurd (true≢false e)
 otherwise P false x e k = k

@@ -29,7 +29,7 @@ module _ (now : ℕ) (d : Demand) where
   unfolding demandExpired
   unleased-holds e = ap (isSomeAndExpired (d .leaseStartedMs) now) e
 
-  -- with one it does exactly where more than the lease has passed since its start
+  -- with one it does exactly if more than the lease has passed since its start
   pub leased-expires : (k : ℕ) → d .leaseDurationMs ≡ some k → (demandExpired now d ≡ true) ↔ (k < elapsed 64 (d .leaseStartedMs) now)
   unfolding demandExpired
   leased-expires k e =
@@ -47,7 +47,7 @@ module _ (n now : ℕ) (c : Core) where
 
 -- ---- the count of expiries: document 01, "An expired lease is counted even if the answer is Faulted"
 
--- where the lease is looked at
+-- when the lease is looked at
 leased-count : (n now : ℕ) (c : Core)
     → leasedCore n now c .stats .leaseExpiries ≡ pick (demandExpired now (c .demand)) (wrappingAdd (c .stats .leaseExpiries)) (c .stats .leaseExpiries)
 unfolding expireLease commandStop clearRequestSent

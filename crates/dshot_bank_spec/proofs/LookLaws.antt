@@ -18,7 +18,7 @@ use Rattle.dshot_bank_spec.proofs.ThrottleLaws.{throttles-faulted, thro
 module _ (n : ℕ) (s : State) where
   -- ---- is_faulted
 
-  -- a bank told as faulted refuses all throttles with 18
+  -- if `is_faulted` says yes, the bank refuses all throttles with 18 (faulted)
   pub faulted-told : step n s is-faulted .answer ≡ flag true → (commands : List ℕ) (now lease : ℕ)
       → step n s (command-throttles commands now lease) ≡ told s (refused 18)
   unfolding step portRefusal
@@ -33,7 +33,7 @@ module _ (n : ℕ) (s : State) where
 
   -- ---- requested_values
 
-  -- after throttles that are taken their values are told
+  -- after throttles that are taken, the look gives their values
   pub throttles-told : s .bank .core .frame .faulted ≡ false → (commands : List ℕ) (now lease : ℕ)
       → ((i : ℕ) → i < length commands → getD commands i 0 ≤ 2000) → (i : ℕ) → i < length commands → 0 < getD commands i 0
       → step n (step n s (command-throttles commands now lease) .state) requested-values .answer ≡ values (throttleValues n commands)
@@ -48,7 +48,7 @@ module _ (n : ℕ) (s : State) where
 
   -- ---- stats, reply_stats
 
-  -- the counts are told as they stand
+  -- the look gives the counts as they stand
   pub stats-told : step n s stats .answer ≡ counts (s .bank .core .stats)
   unfolding step portRefusal
   stats-told = refl
@@ -70,7 +70,7 @@ module _ (n : ℕ) (s : State) where
   -- ---- sending, the view
 
   module _ (lane : ℕ) (there : lane < n) (fit : SlotsFit n (length (s .buffers .first)) (length (s .buffers .second))) where
-    -- the second buffer's part where the lane's mark is set
+    -- the second buffer's part, if the lane's mark is set
     pub view-second : getD (s .bank .core .frame .inSecond) lane false ≡ true → step n s (sending lane) .answer ≡ slots (part 16 lane (s .buffers .second))
     view-second m = ap (λ (r : Stepped). r .answer) (view-acts n s lane fit there) ∙ ap (λ (l : List ℕ). slots (part 16 lane l)) (sym (on _ _ m refl))
 

@@ -25,7 +25,7 @@ pub record ServiceFit (n first second captures : ℕ) : Type 0 where
   pub slots : SlotsFit n first second
   pub samples : captures ≡ 160 * n
 
--- a test that holds just where a type has a value is false where it has none
+-- If a test holds, a type has a value. So if the type has none, the test is false.
 fails : {P : Type 0} (b : Bool) → (b ≡ true → P) → (P → ⊥) → b ≡ false
 fails true h no-value = absurd (no-value (h refl))
 fails false h no-value = refl

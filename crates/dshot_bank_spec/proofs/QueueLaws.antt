@@ -53,7 +53,7 @@ module _ (n : ℕ) (s : State) (motor : ℕ) (sequence : CommandRun) (there : mo
         let values = s .bank .core .demand .requestedValues in
         sym (off _ _ (ap isSome (h .lease)) (sym (none-above 0 values (λ i l. omega (arith, h .values i l)))))
 
-    -- where all are stopped, a run that is pending refuses it with 20
+    -- if all are stopped, a pending run refuses it with 20 (command pending)
     pub special-pending : Stopped (s .bank .core .demand) → (r : MotorRun) → s .bank .core .commandSequence ≡ some r → queued ≡ told s (refused 20)
     unfolding commandSpecial
     special-pending h r e =
@@ -67,7 +67,7 @@ module _ (n : ℕ) (s : State) (motor : ℕ) (sequence : CommandRun) (there : mo
         special-acts (Reply.given (withCommandSequence (some (record { motor = motor; sequence = sequence })) (s .bank .core)))
         (off _ _ f (off _ _ (not-running h) (off _ _ (ap isSome e) refl)))
 
-    -- a run that was queued is told as pending, and one that was not is not: `command_pending`
+    -- `command_pending` says yes if a run was queued, and no if none was
     pub queued-pending : Stopped (s .bank .core .demand) → s .bank .core .commandSequence ≡ none
         → (step n s command-pending .answer ≡ flag false) × (step n (queued .state) command-pending .answer ≡ flag true)
     unfolding step portRefusal

@@ -19,7 +19,7 @@ use Rattle.dshot_bank_spec.proofs.LaneLaws.{either, under}
 
 -- ---- what a refused call leaves
 
--- where the answer is a refusal, the state stays
+-- if the answer is a refusal, the state stays
 abbrev Keeps : State → Stepped → Type 0
 Keeps s r = isRefused (r .answer) ≡ true → r .state ≡ s
 
@@ -123,7 +123,7 @@ one-run n s c cs true k a h = h s ∙ ap (λ (t : State). run n t cs) (sym (k re
 one-run n s c cs false k a h =
     ap (λ (r : Stepped). sourceRun n (r .state) (accepted n (step n s c .state) cs)) (sym (a refl)) ∙ h (step n s c .state)
 
--- the source alone, over the calls that are not refused, leaves what the whole list leaves
+-- the source's calls, over the calls that are not refused, leave what the whole list leaves
 pub accepted-run : (n : ℕ) (s : State) (calls : List Call) → sourceRun n s (accepted n s calls) ≡ run n s calls
 accepted-run n s [] = refl
 accepted-run n s (c ∷ cs) = one-run n s c cs (isRefused (step n s c .answer)) (refusals-keep n s c) (accepted-acts n s c) (λ t. accepted-run n t cs)

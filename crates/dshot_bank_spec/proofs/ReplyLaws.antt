@@ -68,7 +68,7 @@ module _ (n now : ℕ) (taken present : List Bool) (masks samples : List ℕ) (r
       ∙ ap counted (lane-stored n lane l true present masks samples replies)
       ∙ one-counted (getD replies lane noReplies) _
 
-  -- one that does not read leaves replies and counts: with a fault, with a frame in flight, or where none wait
+  -- one that does not read leaves replies and counts: with a fault, with a frame in flight, or if none wait
   pub fault-counts-none : c .frame .faulted ≡ true → after ≡ replies
   unfolding readReplies
   fault-counts-none f = reads-by false (sym (on _ _ f refl))
@@ -84,7 +84,7 @@ module _ (n now : ℕ) (taken present : List Bool) (masks samples : List ℕ) (r
 -- ---- take_replies
 
 module _ (n : ℕ) (s : State) where
-  -- the replies of every lane are handed out where some are held
+  -- if some are held, the replies of every lane are handed out
   pub replies-told : s .bank .core .frame .repliesHeld ≡ true → step n s take-replies .answer ≡ replied (some (repliesOf (s .bank .replies)))
   unfolding step portRefusal
   replies-told e = ap replied (sym (on _ _ e refl))

@@ -75,7 +75,7 @@ module _ (n now : ℕ) (taken present : List Bool) (masks samples : List ℕ) (r
       served-core n now taken present masks samples replies buffers c f idle (λ (x : Core). x .commandSequence) refl
       ∙ either (λ (x : Sent). x .core .commandSequence ≡ none) (ltb (position not taken) n) refl gone
 
-  -- where a frame starts, what its next command leaves of the run is left
+  -- if a frame starts, what its next command leaves of the run is left
   pub run-goes-on : n ≤ position not taken → after ≡ nextCommandFrame (sendingCore n now c) .left
   unfolding frameStarted
   run-goes-on h =

@@ -24,7 +24,7 @@ use Rattle.dshot_bank_spec.proofs.LeaseEnds.{read-keeps}
 use Rattle.dshot_bank_spec.proofs.Service.{leasedCore, leased-frame, serviceSend, service-sends}
 use Rattle.dshot_bank_spec.proofs.ServiceLaws.{leased-counts}
 
--- the counts with which a service comes to send, but for that of expiries
+-- the counts when a service begins to send, except that of expiries
 sending-counts : (g : Stats → ℕ) (n now : ℕ) (c : Core) → ((k : ℕ) → g (withLeaseExpiries k (c .stats)) ≡ g (c .stats))
     → g (sendingCore n now c .stats) ≡ g (c .stats)
 sending-counts g n now c h = read-keeps (λ (x : Core). g (x .stats)) (λ f x. refl) (leasedCore n now c) ∙ leased-counts g n now c h
@@ -106,7 +106,7 @@ module _ (n now : ℕ) (taken present : List Bool) (masks samples : List ℕ) (r
   unfolding clearRequestSent
   served-event t = sym (ap (λ (z : Served). z .event) sends) ∙ ap (λ (y : Sent). sentEvent (y .started) (demandExpired now (c .demand))) t
 
-  -- where a frame starts it is counted, and in flight from this clock on
+  -- if a frame starts, it is counted, and in flight from this clock on
   pub service-starts : n ≤ position not taken → Starts now (demandExpired now (c .demand)) c served
   unfolding frameStarted
   service-starts h =
@@ -121,7 +121,7 @@ module _ (n now : ℕ) (taken present : List Bool) (masks samples : List ℕ) (r
             ∙ ap wrappingAdd (sending-counts (λ (k : Stats). k .framesStarted) n now c (λ m. refl));
       }
 
-  -- where a lane refuses its buffer the bank latches a fault, and no frame is counted
+  -- if a lane refuses its buffer, the bank latches a fault, and no frame is counted
   pub service-refuses : position not taken < n → Refuses n now (position not taken) c buffers served
   unfolding exchangeRefused latchFault commandStop
   service-refuses h =

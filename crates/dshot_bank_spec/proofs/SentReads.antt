@@ -125,7 +125,7 @@ dutiesOf (pause-and-clear motor) = none
 dutiesOf begin-receive = none
 dutiesOf end-receive = none
 
--- the duties of the last order, where it starts a frame, or o where there is no order
+-- the duties of the last order, if it starts a frame; o if there is no order
 abbrev lastDuties : Option (List ℕ) → List Order → Option (List ℕ)
 lastDuties o [] = o
 lastDuties o (x ∷ xs) = lastDuties (dutiesOf x) xs
@@ -160,7 +160,7 @@ refused-last : (n k : ℕ) (c : Core) → lastDuties none (exchangeRefused n k c
 unfolding exchangeRefused
 refused-last n k c = last-append none (tabulate (k + 1) exchange-buffer) (latchOrders n) ∙ last-latch n
 
--- where a test picks orders that end in a start, and its first orders do not, it has failed
+-- if a test picks orders that end in a start, and its first orders do not, it has failed
 second-starts : {A : Type 0} {duties : List ℕ} (g : A → List Order) (t : Bool) (x y : A) → lastDuties none (g (pick t x y)) ≡ some duties
     → lastDuties none (g x) ≡ none → (t ≡ false) × (lastDuties none (g y) ≡ some duties)
 second-starts {A} {duties} g t x y h e =

@@ -15,7 +15,7 @@ use Rattle.dshot_bank_spec.proofs.LaneLaws.{off, either}
 abbrev pub leasedCore : ℕ → ℕ → Core → Core
 leasedCore n now c = expireLease n (demandExpired now (clearRequestSent c .demand)) (clearRequestSent c)
 
--- the lease changes demand, telemetry and counts alone
+-- the lease changes only demand, telemetry and counts
 pub leased-keeps : {A : Type 0} (g : Core → A) (n now : ℕ) (c : Core)
     → ((d : Demand) (t : Telemetry) (k : Stats) → g (withStats k (withTelemetry t (withDemand d c))) ≡ g c) → g (leasedCore n now c) ≡ g c
 unfolding expireLease commandStop clearRequestSent

@@ -25,7 +25,7 @@ pub leased-counts : (g : Stats → ℕ) (n now : ℕ) (c : Core) → ((k : ℕ) 
 unfolding expireLease commandStop clearRequestSent
 leased-counts g n now c h = either (λ (x : Core). g (x .stats) ≡ g (c .stats)) (demandExpired now (clearRequestSent c .demand)) (h _) refl
 
--- and of the telemetry what was sent alone
+-- and of the telemetry only what was sent
 pub leased-telemetry : (n now : ℕ) (c : Core) → leasedCore n now c .telemetry ≡ record { request = c .telemetry .request; requestSent = none }
 unfolding expireLease commandStop clearRequestSent
 leased-telemetry n now c =
@@ -38,7 +38,7 @@ leased-run n now c = leased-keeps (λ (x : Core). x .commandSequence) n now c (�
 
 -- ---- what a service can do with a frame in flight: served, of a bank with the core c
 
--- it leaves it alone
+-- it leaves the frame in flight as it is
 pub record Skips (expired : Bool) (c : Core) (replies : List LaneReply) (buffers : Buffers) (served : Served) : Type 0 where
   pub event : served .event ≡ pick expired lease-expired busy
   pub orders : served .orders ≡ []
@@ -75,11 +75,11 @@ module _ (n now : ℕ) (taken present : List Bool) (masks samples : List ℕ) (r
         sym (off _ _ f (on _ _ (ap (λ (q : Frame). q .busy) (leased-frame n now c) ∙ b) refl))
         ∙ ap (unsent n now taken present masks samples replies buffers) (sym e)
 
-    -- whether it is late is told by when it started
+    -- when it started decides whether it is late
     late : (t : Bool) → leaseExpired (c .frame .startedMs) 1 now ≡ t → leaseExpired (leasedCore n now c .frame .startedMs) 1 now ≡ t
     late t e = ap (λ (q : Frame). leaseExpired (q .startedMs) 1 now) (leased-frame n now c) ∙ e
 
-    -- for up to a millisecond a service leaves it alone, and counts that: document 01, "timeout when more than 1 ms, wrapping 64-bit"
+    -- For up to a millisecond a service leaves it as it is, and counts a busy skip. Document 01: "timeout when more than 1 ms, wrapping 64-bit".
     pub service-skips : elapsed 64 (c .frame .startedMs) now ≤ 1 → Skips expired c replies buffers served
     unfolding serviceBusy
     service-skips h =

@@ -142,6 +142,6 @@ module _ (n : ℕ) (s : State) where
   act-mode (sending motor) e = refl
   act-mode (lend buffers) e = refl
 
-  -- the source sets `bidirectional` in `enable_bidirectional` alone
+  -- the source sets `bidirectional` only in `enable_bidirectional`
   pub mode-kept : (c : Call) → enables c ≡ false → Same (step n s c)
   mode-kept c e = either-step n s c Same (act-mode c e) refl

@@ -10,7 +10,7 @@ use lib.ListN.{length, take, drop, length-append, length-drop, drop-of-length-le
 use lib.Seq.{drop-drop, take-at, drop-at}
 use Rattle.dshot_bench.specs.Sequences.{joined}
 
--- slots of which the first i parts of width w are those of f
+-- slots whose first i parts of width w are those of f
 pub record Joined (w n : ℕ) (f : ℕ → List ℕ) (xs : List ℕ) (i : ℕ) (out : List ℕ) : Type 0 where
   pub within : i ≤ n
   pub old : length xs ≡ w * n

@@ -96,7 +96,7 @@ module _ (w a b c d : ℕ) (ea : a ≡ nibbleOf (w / 32768 % 32)) (eb : b ≡ ni
   unfolding places
   decode-unequal h n = whole ∙ unequal places (none-bad (omega arith) (omega arith) (omega arith) (omega arith)) n
 
-  -- where three are nibbles and the exclusive or is 0xF, the fourth is one
+  -- if three are nibbles and the exclusive or is 0xF, the fourth is a nibble
   fourth : a + b + c ≤ 45 → bitXor (bitXor (bitXor a b) c) d ≡ 15 → d < 255
   fourth h n = go mark0
     where

@@ -118,7 +118,7 @@ firstLow-le ls = rw (low-ends-high ls) (same-most true ls)
 start-le : (m : ℕ) (s : List ℕ) → firstLow (levels m s) ≤ length s
 start-le m s = rw (length-map s (high m)) at (firstLow-le (levels m s))
 
--- the first low sample of a part from the start: that of the whole, or, where the part has none, the whole has none there
+-- The first low sample of a part from the start is that of the whole. If the part has none, the whole has none there.
 firstLow-part : (k : ℕ) (ls : List Bool) → k ≤ length ls → firstLow (take k ls) < k → firstLow ls ≡ firstLow (take k ls)
 firstLow-part zero ls l h = absurd (omega arith)
 firstLow-part (suc k) [] l h = absurd (omega arith)

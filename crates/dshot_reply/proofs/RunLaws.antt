@@ -17,7 +17,7 @@ use Rattle.dshot_reply.specs.Steps.{closed, sameFor}
 
 -- ---- the first of the finished runs
 
--- no run is finished where all levels are the same
+-- if all levels are the same, no run is finished
 run-open : (l : Bool) (n : ℕ) (ls : List Bool) → sameFor l ls ≡ length ls → finished l n ls ≡ []
 run-open l n [] e = refl
 run-open true n (true ∷ ls) e = run-open true (suc n) ls (omega arith)
@@ -43,7 +43,7 @@ run-closed false n (true ∷ ls) h = ap (λ (k : ℕ). k ∷ finished true 1 ls)
 completeFrom : ℕ → List ℕ → List ℕ
 completeFrom bits ks = pick (ltb (bits + sum ks) 21) (ks ++ ((21 - (bits + sum ks)) ∷ [])) ks
 
--- `assemble`, where bits have been read already and have made w
+-- `assemble`, if bits have been read already and have made w
 pub assembleFrom : ℕ → ℕ → List ℕ → Answer ℕ
 assembleFrom bits w ks =
     pick (ltb 21 (bits + sum ks)) (refused overlong) (pick (ltb (bits + sum ks) 18) (refused noReply) (given (runsWord w (completeFrom bits ks))))
@@ -77,7 +77,7 @@ assemble-end bits w h =
     simp (add-zero, le-ltb 21 bits h)
     (ap (λ (x : Answer ℕ). pick (ltb bits 18) (refused noReply) x) (last-run (ltb bits 21) w (21 - bits)))
 
--- ---- what reading from the edge at i on gives, where the finished runs have made the bits of w
+-- ---- what reading from the edge at i on gives, if the finished runs have made the bits of w
 
 abbrev pub rest : ℕ → ℕ → List ℕ → ℕ → Bool → ℕ → ℕ → Answer ℕ
 rest t m s i l bits w = assembleFrom bits w (map (runBits t) (finished l 0 (levels m (drop i s))))

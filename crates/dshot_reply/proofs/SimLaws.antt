@@ -36,7 +36,7 @@ allSamples s w m = map (levelSample m) (bitLevels s true 21 w)
 abbrev pub after : ℕ → ℕ → ℕ → ℕ → ℕ → ℕ → List ℕ
 after s w lead m n k = (replicate lead m ++ take k (allSamples s w m)) ++ replicate (n - lead - k) m
 
--- the samples of the lowest i bits, where l is the level before them, are what is left after k samples
+-- the samples of the lowest i bits after the level l are what is left after k samples
 abbrev pub Left : ℕ → ℕ → ℕ → Bool → ℕ → ℕ → Type 0
 Left s w m l i k = map (levelSample m) (bitLevels s l i w) ≡ drop k (allSamples s w m)
 

@@ -28,7 +28,7 @@ lasts-exactly s k n = (λ h. (omega arith, omega arith, omega arith), λ h. may-
 pub lasts-at-three : (k n : ℕ) → Lasts 3 k n ↔ (0 < k) × (3 * k - 1 ≤ n) × (n ≤ 3 * k + 1)
 lasts-at-three k n = lasts-exactly 3 k n
 
--- samples at the pin 0x10, where all other pins are high: a lead, runs of ns samples, and more levels
+-- samples at the pin 0x10, with all other pins high: a lead, runs of ns samples, and more levels
 abbrev pub captured : ℕ → List ℕ → List Bool → List ℕ
 captured lead ns more = map (λ l. if l then 0xffff else 0xffef) (replicate lead true ++ (alternating false ns ++ more))
 
@@ -71,7 +71,7 @@ checksum-damaged = every-damage (replyWord 0x999) 0 0x12 (lit< tt) (lit< tt) (λ
 abbrev damagedRuns : List ℕ
 damagedRuns = 2 ∷ 3 ∷ 2 ∷ 3 ∷ 2 ∷ 3 ∷ 1 ∷ 3 ∷ 2 ∷ []
 
--- the last run is still low where reading ends, after 69 samples
+-- the last run is still low when reading ends, after 69 samples
 abbrev pub openRuns : List ℕ
 openRuns = 6 ∷ 9 ∷ 6 ∷ 9 ∷ 6 ∷ 9 ∷ 3 ∷ 9 ∷ 12 ∷ []
 

@@ -24,7 +24,7 @@ bit-low u m i h =
     let e : j + 1 + i ≡ m = omega arith in
     ap (λ (n : ℕ). u % 2 ^ n / 2 ^ i % 2) (sym e) ∙ ap (λ (n : ℕ). n % 2) (field u (j + 1) i) ∙ mod-mod-pow (u / 2 ^ i) j 1
 
--- x with a 1 at i and a 0 at j stays below 2 ^ m where the two change places
+-- if the two change places, x with a 1 at i and a 0 at j stays below 2 ^ m
 room-test : ℕ → ℕ → ℕ → ℕ → Bool
 room-test m i j x =
     pick (eqb (bit x i) 1) (pick (eqb (bit x j) 0) (both (leb (2 ^ i) x) (ltb (x + 2 ^ j - 2 ^ i) (2 ^ m))) true) true
@@ -87,7 +87,7 @@ pub turn-low : {a b c d : ℕ} → Turns a b c d → d ≡ b → ⊥
 unfolding changes
 turn-low {a} {b} {c} {d} m = differ d b (both-right (not (eqb c a)) (not (eqb d b)) (passes changes tt m))
 
--- two nibbles, neither of which marks a bad symbol, with the exclusive or s
+-- two nibbles with the exclusive or s; neither marks a bad symbol
 unfoldable pub good : ℕ → ℕ → ℕ → Bool
 good c d s = both (pick (eqb c 255) false true) (both (pick (eqb d 255) false true) (eqb (bitXor c d) s))
 
@@ -105,7 +105,7 @@ same-bool false false t = refl
 same-bool true false t = absurd t
 same-bool false true t = absurd t
 
--- the symbols of two nibbles whose edge at the boundary moves are those of good nibbles with the same exclusive or exactly where they turn
+-- The edge at the boundary of two symbols moves. They are symbols of good nibbles with the same exclusive or exactly if the nibbles turn.
 abbrev pub Crossed : ℕ → ℕ → Type 0
 Crossed i j = (a b x : ℕ) → a < 16 → b < 16 → x ≡ symbolOf a * 32 + symbolOf b → bit x i ≡ 1 → bit x j ≡ 0
     → good (nibbleOf ((x + 2 ^ j - 2 ^ i) / 32)) (nibbleOf ((x + 2 ^ j - 2 ^ i) % 32)) (bitXor a b)

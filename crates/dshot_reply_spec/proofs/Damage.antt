@@ -68,7 +68,7 @@ module _ (f g : ℕ → ℕ) (lf : (p : ℕ) → p < 4 → f p < 16) (lg : (p : 
       (rw (same 2 (omega arith) (λ i. omega arith)) at (off1 (same 0 (omega arith) (λ i. omega arith)) (same 1 (omega arith) (λ i. omega arith)) e))
   settled (suc (suc (suc (suc p)))) l same e = absurd (omega arith)
 
-  -- where all but two neighbours are the same, the exclusive or of the two settles that of all, and the other way round
+  -- If all except two neighbours are the same, the exclusive or of the two settles that of all, and the other way round.
   pub pair-settled : (p : ℕ) → p < 3 → ((q : ℕ) → q < 4 → (q ≡ p → ⊥) → (q ≡ p + 1 → ⊥) → f q ≡ g q) → xorOf f ≡ xorOf g → bitXor (f (p + 1)) (f p) ≡ bitXor (g (p + 1)) (g p)
   pair-settled zero l same e =
       cancel-left (bitXor (f 1) (f 0)) (bitXor (g 1) (g 0)) (bitXor (g 3) (g 2)) (nibble-xor (f 1) (f 0) (lf 1 (omega arith)) (lf 0 (omega arith)))

@@ -12,15 +12,15 @@ pub either-given : {A : Type 0} {x y z : A} (b : Bool) → pick b x y ≡ z → 
 either-given true e = inl (refl, e)
 either-given false e = inr (refl, e)
 
--- where its first answer is a refusal, its test fails
+-- if its first answer is a refusal, its test fails
 pub second-given : {A : Type 0} {a : Answer A} {x : A} (n : ℕ) (b : Bool) → pick b (refused n) a ≡ given x → (b ≡ false) × (a ≡ given x)
 second-given n b e = not-first b e (λ f. not-both f refl)
 
--- where its second answer is a refusal, its test holds
+-- if its second answer is a refusal, its test holds
 pub first-given : {A : Type 0} {a : Answer A} {x : A} (n : ℕ) (b : Bool) → pick b a (refused n) ≡ given x → (b ≡ true) × (a ≡ given x)
 first-given n b e = not-second b e (λ f. not-both f refl)
 
--- where the next step gives something, it was given something
+-- if the next step gives something, it was given something
 pub then-given : {A B : Type 0} (a : Answer A) (next : A → Answer B) {y : B} → andThen a next ≡ given y
     → (x : A) × (a ≡ given x) × (next x ≡ given y)
 then-given (given x) next e = (x, refl, e)

@@ -36,8 +36,8 @@ alternating l (n ∷ ns) = replicate n l ++ alternating (not l) ns
 abbrev lasting : ℕ → ℕ → ℕ → Bool
 lasting s k n = both (ltb 0 k) (both (leb (s * k - (s - 1) / 2) n) (leb n (s * k + (s - 1) / 2)))
 
--- whether ns samples may be runs of ks bits, the first at the level l. The last run takes up all that is left; or, where it is low, it lasts its
--- bits, and one run of high samples follows
+-- Whether ns samples may be runs of ks bits, the first at the level l. The last run takes up all that is left. A low last run may instead last its
+-- bits, and one run of high samples follows.
 abbrev pub fits : ℕ → Bool → List ℕ → List ℕ → Bool
 fits s l [] ns = false
 fits s l (k ∷ []) [] = false

@@ -23,7 +23,7 @@ use Rattle.dshot_reply_spec.specs.Gcr.{decodeWord, nibbleAt, nibbleOf, r
 use Rattle.dshot_reply_spec.specs.Move.{Formed, Moved, Turned, Turns, bit, wordValue}
 use Rattle.dshot_reply_spec.specs.Render.{Damaged}
 
--- what the word has above its lowest 5q bits, where a bit i and a bit j of that change places below m
+-- what the word has above its lowest 5q bits, if a bit i and a bit j of that change places below m
 record Local (w w′ q m i j : ℕ) : Type 0 where
   low : w′ % 2 ^ (5 * q) ≡ w % 2 ^ (5 * q)
   top : w′ / 2 ^ (5 * q) / 2 ^ m ≡ w / 2 ^ (5 * q) / 2 ^ m
@@ -51,7 +51,7 @@ local w w′ q m i j hi hj room e b z =
       none = z′;
     }
 
--- the symbols at and above q + a, where all above 5a bits from 5q on is the same
+-- the symbols at and above q + a, if all above 5a bits from 5q on is the same
 pub symbol-top : (w w′ q a p : ℕ) → w′ / 2 ^ (5 * q) / 2 ^ (5 * a) ≡ w / 2 ^ (5 * q) / 2 ^ (5 * a) → q + a ≤ p → symbolAt w′ p ≡ symbolAt w p
 symbol-top w w′ q a p e h =
     let d = p - (q + a) in
@@ -65,7 +65,7 @@ symbol-here : (w q : ℕ) → symbolAt w q ≡ w / 2 ^ (5 * q) % 32
 unfolding symbolAt
 symbol-here w q = refl
 
--- a move inside the symbol at q damages that symbol alone
+-- a move inside the symbol at q damages only that symbol
 inside-damages : (w w′ q i j : ℕ) → q < 4 → (2 ^ i ≡ 2 ^ j → ⊥) → Local w w′ q 5 i j → Damaged w w′ q
 inside-damages w w′ q i j h ne l = record {
   place = h;
@@ -95,7 +95,7 @@ ten-bits w q = sym (split (w / 2 ^ (5 * q) % 2 ^ 10) 5) ∙ rw (high-of w q, low
 
 -- ---- nibbles that turn
 
--- two nibbles turn only where neither symbol is kept
+-- two nibbles turn only if neither symbol is kept
 both-change : (w w′ : ℕ) (t : Turned w w′) → (symbolAt w′ (t .place) ≡ symbolAt w (t .place)) ⊎ (symbolAt w′ (t .place + 1) ≡ symbolAt w (t .place + 1)) → ⊥
 both-change w w′ t (inl e) = turn-low (t .row) (ap nibbleOf e)
 both-change w w′ t (inr e) = turn-high (t .row) (ap nibbleOf e)
@@ -119,7 +119,7 @@ across-turns-there w w′ q i j l t =
 
 -- ---- what is taken
 
--- a word decodes to a value exactly where neighbouring nibbles have turned
+-- a word decodes to a value exactly if neighbouring nibbles have turned
 abbrev pub TakenIfTurned : ℕ → ℕ → Type 0
 TakenIfTurned v w′ = (Turned (replyWord v) w′ × Formed v (wordValue w′) w′) ⊎ ((Turned (replyWord v) w′ → ⊥) × Undecoded (decodeWord w′))
 
@@ -196,7 +196,7 @@ module _ (v w′ q i j : ℕ) (h : q < 3) (l : Local (replyWord v) w′ q 10 i j
       ∙ shr-shr (replyWord v / 2 ^ (5 * q)) 10 d ∙ shr-shr (replyWord v) (5 * q) (10 + d))
       ∙ start-edge v
 
-  -- where the nibbles turn, the word is that of a value
+  -- if the nibbles turn, the word is that of a value
   when-turned : T turned-bool → Turned (replyWord v) w′ × Formed v (wordValue w′) w′
   unfolding turned-bool good-bool
   when-turned t =
@@ -220,7 +220,7 @@ module _ (v w′ q i j : ℕ) (h : q < 3) (l : Local (replyWord v) w′ q 10 i j
         },
       )
 
-  -- where they do not, it does not
+  -- if they do not, the word does not decode
   when-not : (T turned-bool → ⊥) → (Turned (replyWord v) w′ → ⊥) × Undecoded (decodeWord w′)
   unfolding turned-bool good-bool decodeWord
   when-not out = (

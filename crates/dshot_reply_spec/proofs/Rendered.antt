@@ -161,7 +161,7 @@ rendered-exact s p ls w r =
     long : leb (19 * s) (length (replicate (r .lead) true ++ r .after) - r .lead) ≡ true
     long = le-leb (19 * s) (length (replicate (r .lead) true ++ r .after) - r .lead) (omega (arith, r .room, length-append (replicate (r .lead) true) (r .after), length-replicate (r .lead) true))
 
--- a capture that renders w is read as w, or as no reply where w ends in too long a run
+-- A capture that renders w is read as w. If w ends in too long a run, it may be read as no reply.
 pub rendered-read : (s : ℕ) → 0 < s → (ls : List Bool) (w : ℕ) → Renders s ls w → Read (fromLevels s ls) w
 rendered-read s p ls w r = go (lt-or-ge 3 o)
   where

@@ -68,7 +68,7 @@ value-kept v extended = sound-kept (replyOf v extended) (value-sound v extended)
 -- ---- captures of s samples a bit
 
 module _ (s : ℕ) (pos : 0 < s) (samples : List ℕ) (mask : ℕ) (extended : Bool) where
-  -- a capture that renders w reads as w does, or as no reply, where w does not decode
+  -- A capture that renders w reads as w does. Only if w does not decode, it may read as no reply.
   pub rendered-reply : (w : ℕ) → Renders s (levels mask samples) w
       → (sampledReply s samples mask extended ≡ wordReply w extended)
       ⊎ ((sampledReply s samples mask extended ≡ refused noReply) × (decodeWord w ≡ refused invalidSymbol))
@@ -113,7 +113,7 @@ module _ (s : ℕ) (pos : 0 < s) (samples : List ℕ) (mask : ℕ) (extended : B
   no-word x w′ e (inl u) = not-both (ap decodeWord e ∙ decode-reply x) u
   no-word x w′ e (inr u) = not-both (ap decodeWord e ∙ decode-reply x) u
 
-  -- 3: a capture that renders a reply word with one edge moved by one bit is taken exactly where two neighbouring nibbles turn
+  -- 3: A capture renders a reply word with one edge moved by one bit. It is taken exactly if two neighbouring nibbles turn.
   pub moved-edge : (v w′ i j : ℕ) → Moved (replyWord v) w′ i j → Renders s (levels mask samples) w′ → MovedEdge v w′ extended (sampledReply s samples mask extended)
   moved-edge v w′ i j m r = ⊎-elim (λ t. when-turned (t .0) (t .1)) (λ n. when-not (n .0) (n .1)) (moved-decode v w′ i j m)
     where

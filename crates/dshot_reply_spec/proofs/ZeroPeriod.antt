@@ -16,11 +16,11 @@ use Rattle.dshot_reply_spec.specs.Value.{replyOf, speedOf, speedValue}
 
 -- ---- the speeds that are refused
 
--- a product with a power of two is 0 only where its first factor is
+-- a product with a power of two is 0 only if its first factor is 0
 first-zero : (m k : ℕ) → m * 2 ^ k ≡ 0 → m ≡ 0
 first-zero m k e = eq-of-mul-eq-mul-right (2 ^ k) (pow-pos k) m 0 (rw zero-mul e)
 
--- a speed is refused only where its nine bits are 0
+-- a speed is refused only if its nine bits are 0
 speed-zero : (u : ℕ) → speedValue u ≡ refused zeroPeriod → u % 512 ≡ 0
 unfolding speedValue speedOf
 speed-zero u e =

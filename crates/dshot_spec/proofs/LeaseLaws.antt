@@ -12,17 +12,17 @@ use Rattle.dshot_spec.proofs.ElapsedLaws.{passed, wrapped, elapsed-afte
 
 -- document 01: "expired unless the wrapped difference is within the lease"; `command_lease_expired`
 module _ (started duration now : ℕ) where
-  -- a lease is not expired exactly where the wrapped difference of the clocks is within it
+  -- a lease is not expired exactly if the wrapped difference of the clocks is within it
   pub lease-within : (leaseExpired started duration now ≡ false) ↔ (elapsed 64 started now ≤ duration)
   unfolding leaseExpired
   lease-within = (ltb-false duration (elapsed 64 started now), le-ltb duration (elapsed 64 started now))
 
-  -- and expired exactly where that is above it
+  -- and it is expired exactly if that difference is above it
   pub lease-above : (leaseExpired started duration now ≡ true) ↔ (duration < elapsed 64 started now)
   unfolding leaseExpired
   lease-above = (ltb-true duration (elapsed 64 started now), lt-ltb duration (elapsed 64 started now))
 
--- so k milliseconds after its start it is expired just where k is above the duration, whether the clock has wrapped or not
+-- so k milliseconds after its start it is expired exactly if k is above the duration, whether the clock has wrapped or not
 pub lease-after : (started duration k : ℕ) → started < 2 ^ 64 → k < 2 ^ 64 → leaseExpired started duration ((started + k) % 2 ^ 64) ≡ ltb duration k
 unfolding leaseExpired
 lease-after started duration k small l = ap (ltb duration) (elapsed-after 64 started small k l)
@@ -32,6 +32,6 @@ module _ (started duration now : ℕ) (small : started < 2 ^ 64) (clock : now < 
   pub later-expired : started + duration < now → leaseExpired started duration now ≡ true
   later-expired h = lease-above started duration now .1 (omega (arith, passed 64 started small now clock (omega arith)))
 
-  -- a clock before the start counts as expired, but where the subtraction wraps into the lease
+  -- If the clock is before the start, the lease counts as expired, unless the subtraction wraps into the lease.
   pub earlier-expired : now < started → started + duration < 2 ^ 64 + now → leaseExpired started duration now ≡ true
   earlier-expired h l = lease-above started duration now .1 (omega (arith, wrapped 64 started small now h))

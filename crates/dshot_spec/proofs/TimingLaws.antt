@@ -47,7 +47,7 @@ sample-hz-le s bitrate h = omega (arith, mul-le-mul-left bitrate h)
 pub sample-hz-pos : (s bitrate : ℕ) → 0 < s → 0 < bitrate → 0 < replySampleHz s bitrate
 sample-hz-pos s bitrate h l = omega (arith, sample-hz-le s bitrate h)
 
--- where the bit period fits in sixteen bits, the sample period does
+-- if the bit period fits in sixteen bits, the sample period does
 pub sample-period-fits : (s clock bitrate : ℕ) → 0 < s → 0 < bitrate → nearest clock bitrate ≤ 65536
     → nearest clock (replySampleHz s bitrate) ≤ 65536
 sample-period-fits s clock bitrate h l = nearest-falls 65536 clock bitrate (replySampleHz s bitrate) l (sample-hz-le s bitrate h)
