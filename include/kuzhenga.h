@@ -284,9 +284,9 @@ KUZHENGA_CHECK
 uint32_t kuzhenga_throttles_to_dshot(const uint16_t *values, size_t values_len /* 4 */, uint16_t *out,
                                      size_t out_len /* 4 */);
 
-/* A command run has four slots: two commands, the index of the next one (0 or 1), and how often to send it yet. If the
- * index is above 1, the run is spent. Only the low byte of the last slot counts, and 0 means 256 times. Once the first
- * command is done, the second is sent ten times. */
+/* A command run has four slots: two commands, the index of the next (0 or 1), and how often it is still to be sent. If
+ * the index is above 1, the run is spent. Only the low byte of the last slot counts, and 0 means 256 times. Once the
+ * first command is done, the second is sent ten times. */
 #define KUZHENGA_RUN_SLOTS 4
 #define KUZHENGA_COMMAND_SAVE_SETTINGS 12
 #define KUZHENGA_COMMAND_SPIN_NORMAL 20

@@ -19,7 +19,7 @@ use Rattle.bank_slots_spec.specs.Places.{slots, TIMING, VALUES, LEASE-ST
 abbrev pub flag : ℕ → Bool
 flag n = not (eqb n 0)
 
--- a motor or none: 0 means none; any other number means the lane number - 1, modulo 4
+-- a motor or none: 0 means none; any other number n means lane n - 1, modulo 4
 abbrev pub choice : ℕ → Option ℕ
 choice n = if eqb n 0 then none else some ((n - 1) % 4)
 
@@ -46,8 +46,8 @@ reply k n =
     if isRefusedKind k then refused (k - REFUSED) else
     refused noReply
 
--- A run of two commands in the four slots from k on: the commands, the index, and how often to send the command yet. An index above 255 is spent, as
--- 255 is. Only the low byte of the last slot counts. A run in an argument and a run in the state are read in the same way.
+-- A run of two commands in four slots from k on: the commands, the index, and how often the command is still to be sent. An index above 255 is spent,
+-- as 255 is. Only the low byte of the last slot counts. A run in an argument and a run in the state are read in the same way.
 abbrev pub runFrom : ℕ → (ℕ → ℕ) → CommandRun
 runFrom k m = record { commands = m k ∷ m (k + 1) ∷ []; index = min (m (k + 2)) 255; repeatsLeft = m (k + 3) % 256 }
 
