@@ -24,7 +24,7 @@ use Rattle.dshot_bank_spec.specs.With.{withDemand, withTelemetry, withCo
 abbrev pub noReplies : LaneReply
 noReplies = record { reply = refused noReply; valid = 0; invalid = 0; consecutiveInvalid = 0 }
 
--- from_lanes. In the port each lane sends from the first lent buffer, and the second is its spare.
+-- The Rust's `from_lanes`. In the port each lane sends from the first lent buffer, and the second is its spare.
 unfoldable pub fromLanes : ℕ → Timing → Bank
 fromLanes n timing = record {
   core = record {
@@ -38,7 +38,7 @@ fromLanes n timing = record {
   replies = replicate n noReplies;
 }
 
--- enable_bidirectional. Whether the lanes can receive replies is the hardware's answer.
+-- The Rust's `enable_bidirectional`. Whether the lanes can receive replies is the hardware's answer.
 unfoldable pub enableBidirectional : Bool → Core → Answer Core
 enableBidirectional receives c =
     if not receives then refused repliesUnsupported else
@@ -50,11 +50,11 @@ enableBidirectional receives c =
 abbrev pub anyRequested : List ℕ → Bool
 anyRequested values = any (ltb 0) values
 
--- command_stop
+-- the Rust's `command_stop`
 unfoldable pub commandStop : ℕ → Core → Core
 commandStop n c = withDemand (record { requestedValues = replicate n 0; leaseStartedMs = c .demand .leaseStartedMs; leaseDurationMs = none }) c
 
--- command_throttles
+-- the Rust's `command_throttles`
 unfoldable pub commandThrottles : ℕ → List ℕ → ℕ → ℕ → Core → Answer Core
 commandThrottles n commands now lease c =
     if c .frame .faulted then refused faulted else
@@ -68,7 +68,7 @@ commandThrottles n commands now lease c =
 abbrev pub isRunning : Demand → Bool
 isRunning d = if isSome (d .leaseDurationMs) then true else anyRequested (d .requestedValues)
 
--- command_special
+-- the Rust's `command_special`
 unfoldable pub commandSpecial : ℕ → CommandRun → Core → Answer Core
 commandSpecial motor sequence c =
     if c .frame .faulted then refused faulted else
@@ -81,7 +81,7 @@ pub record MotorCommand : Type 0 where
   pub motor : ℕ
   pub command : ℕ
 
--- what next_command_frame returns, and the command_sequence that it leaves
+-- what `next_command_frame` returns, and the `command_sequence` that it leaves
 pub record NextFrame : Type 0 where
   pub command : Option MotorCommand
   pub left : Option MotorRun
@@ -96,7 +96,7 @@ abbrev pub nextOfRun : Option MotorRun → NextFrame
 nextOfRun none = record { command = none; left = none }
 nextOfRun (some run) = nextOf (run .motor) (nextValue 10 (run .sequence) .command) (nextValue 10 (run .sequence) .run)
 
--- next_command_frame. If a throttle is requested, the run is cancelled here, when a frame is about to start, and nowhere else.
+-- The Rust's `next_command_frame`. If a throttle is requested, the run is cancelled here, when a frame is about to start, and nowhere else.
 unfoldable pub nextCommandFrame : Core → NextFrame
 nextCommandFrame c =
     if anyRequested (c .demand .requestedValues) then record { command = none; left = none } else
@@ -104,23 +104,23 @@ nextCommandFrame c =
 
 -- ---- telemetry requests
 
--- request_telemetry
+-- the Rust's `request_telemetry`
 unfoldable pub requestTelemetry : ℕ → Core → Answer Core
 requestTelemetry motor c =
     if c .frame .faulted then refused faulted else
     if isSome (c .telemetry .request) then refused telemetryPending else
     given (withTelemetry (record { request = some motor; requestSent = c .telemetry .requestSent }) c)
 
--- cancel_telemetry_request
+-- the Rust's `cancel_telemetry_request`
 unfoldable pub cancelTelemetryRequest : Core → Core
 cancelTelemetryRequest c = withTelemetry (record { request = none; requestSent = c .telemetry .requestSent }) c
 
--- the core that take_telemetry_request_sent leaves; service does the same first
+-- the core that `take_telemetry_request_sent` leaves; `service` does the same first
 unfoldable pub clearRequestSent : Core → Core
 clearRequestSent c = withTelemetry (record { request = c .telemetry .request; requestSent = none }) c
 
 -- ---- no call of a bank
 
--- fallback_release_due: whether no frame set was released for two milliseconds, on a clock of 32 bits that may wrap
+-- the Rust's `fallback_release_due`: whether no frame set was released for two milliseconds, on a clock of 32 bits that may wrap
 unfoldable pub fallbackReleaseDue : ℕ → ℕ → Bool
 fallbackReleaseDue now lastRelease = leb 2 (elapsed 32 lastRelease now)

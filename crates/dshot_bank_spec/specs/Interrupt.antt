@@ -81,7 +81,7 @@ module _ (n motor : ℕ) (complete error turned back : Bool) where
       (if back then interrupted completed (end-receive ∷ []) (windowClosed c) else latched false faulted (end-receive ∷ []) c) else
       interrupted completed (stop-frame ∷ []) (frameDone c)
 
-  -- on_dma_interrupt
+  -- the Rust's `on_dma_interrupt`
   unfoldable pub onDmaInterrupt : Core → Interrupted
   onDmaInterrupt c =
       if c .frame .faulted then interrupted faulted [] c else

@@ -14,11 +14,11 @@ use Rattle.dshot_spec.specs.Tabulate.{tabulate, part}
 use Rattle.dshot_bank_spec.specs.State.{LaneReply}
 use Rattle.dshot_bank_spec.specs.Commands.{noReplies}
 
--- wrapping_add(1) of a count
+-- the Rust's `wrapping_add(1)` of a count
 abbrev pub wrappingAdd : ℕ → ℕ
 wrappingAdd count = (count + 1) % 2 ^ 32
 
--- saturating_add(1) of a count
+-- the Rust's `saturating_add(1)` of a count
 abbrev pub saturatingAdd : ℕ → ℕ
 saturatingAdd count = min (count + 1) (2 ^ 32 - 1)
 
@@ -37,11 +37,11 @@ countReply reply l =
     then record { reply = reply; valid = wrappingAdd (l .valid); invalid = l .invalid; consecutiveInvalid = 0 }
     else record { reply = reply; valid = l .valid; invalid = wrappingAdd (l .invalid); consecutiveInvalid = saturatingAdd (l .consecutiveInvalid) }
 
--- one lane's part of decode_replies
+-- one lane's part of `decode_replies`
 abbrev pub decodeLane : List Bool → List ℕ → List ℕ → List LaneReply → ℕ → LaneReply
 decodeLane present masks samples old lane =
     countReply (readWindow (getD present lane false) (window samples lane) (getD masks lane 0)) (getD old lane noReplies)
 
--- decode_replies
+-- the Rust's `decode_replies`
 unfoldable pub decodeReplies : ℕ → List Bool → List ℕ → List ℕ → List LaneReply → List LaneReply
 decodeReplies n present masks samples old = tabulate n (decodeLane present masks samples old)

@@ -27,7 +27,7 @@ countFault faulted spurious s =
     withSpuriousInterrupts (if spurious then wrappingAdd (s .spuriousInterrupts) else s .spuriousInterrupts)
     (withDmaFaults (if faulted then s .dmaFaults else wrappingAdd (s .dmaFaults)) s)
 
--- latch_fault; its orders are `latchOrders`
+-- the Rust's `latch_fault`; its orders are `latchOrders`
 unfoldable pub latchFault : ℕ → Bool → Core → Core
 latchFault n spurious c =
     commandStop n
@@ -73,7 +73,7 @@ exchangeBuffers n now taken request duties c =
     if ltb (position not taken) n then exchangeRefused n (position not taken) c else
     record { started = true; orders = startOrders n duties; core = frameStarted n now request c }
 
--- send_requested
+-- the Rust's `send_requested`
 unfoldable pub sendRequested : ℕ → ℕ → List Bool → Core → Sent
 sendRequested n now taken c =
     exchangeBuffers n now taken (nextSet n c .telemetryRequest) (firstDuties n (c .timing) (packetsSent n c))
