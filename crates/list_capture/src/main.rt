@@ -1,17 +1,76 @@
-// The capture lister, added by document 01: reads one capture file from standard input and writes its line to standard output.
+// The capture lister, added by document 01: reads one capture file and writes its line to standard output.
+//
+//   list_capture [FILE]
+//
+// Without FILE it reads standard input. If that is a terminal, it first says on standard error what it waits for.
+//
+// If there is more than one argument, or if the file cannot be opened or read, it says so on standard error and writes no line. Its exit status is 0
+// all the same, since a program in Rattle cannot set one. A script can tell a failure by an empty standard output.
 //
 // An input that is longer than the buffer is cut at the buffer's end. It is refused with 17 all the same, as the whole input would be: the longest
 // file that holds a capture has 12294 bytes, and the buffer has 65536.
+mod input;
 
 use capture_file::list::file_line;
+use input::read_input;
+use libc::STDERR_FILENO;
 use libc::STDIN_FILENO;
 use libc::STDOUT_FILENO;
 
 fn main() {
+    let count = os::arg_count();
+    if count > 2 {
+        io::write_all(STDERR_FILENO, b"usage: list_capture [FILE]\n");
+    } else if count == 2 {
+        list_argument();
+    } else {
+        list_standard_input();
+    }
+}
+
+fn list_argument() {
+    let mut path = io::buffer();
+    let length = os::arg(1, &mut path);
+    if os::errno() != 0 {
+        os::fail(b"FILE");
+        return;
+    }
+    let fd = os::open_read(&path[..length]);
+    if fd < 0 {
+        os::fail(&path[..length]);
+        return;
+    }
+    list(fd, &path[..length]);
+    libc::close(fd);
+}
+
+fn list_standard_input() {
+    if libc::isatty(STDIN_FILENO) == 1 {
+        io::write_all(
+            STDERR_FILENO,
+            b"list_capture: waiting for a capture file on standard input\n",
+        );
+    }
+    list(STDIN_FILENO, b"standard input");
+}
+
+// Writes the line of the file that is open, or says why it cannot be read.
+fn list(fd: i32, name: &[u8]) {
     let mut file = io::large_buffer();
-    let n = io::read_full(STDIN_FILENO, &mut file);
-    let line = file_line(&file[..n]);
+    let input = read_input(fd, &mut file);
+    if input.failed {
+        os::fail(name);
+        return;
+    }
+    let length = input.length;
+    write_line(&file[..length]);
+}
+
+fn write_line(file: &[u8]) {
+    let line = file_line(file);
     let bytes = line.bytes;
     let length = line.length;
-    io::write_all(STDOUT_FILENO, &bytes[..length]);
+    if !io::write_all(STDOUT_FILENO, &bytes[..length]) {
+        os::fail(b"standard output");
+    }
 }

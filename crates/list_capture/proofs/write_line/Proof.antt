@@ -1,27 +1,12 @@
--- `list_capture::main`: a line that is written lies within its bytes.
+-- `list_capture::write_line`: a line that is written lies within its bytes.
 -- Assumes nothing.
 use mathlib.Core.Path.{sym}
 use native.Mathlib.Omega.{arith}
 use lib.Seq.{length-take-le}
 use Rattle.capture_file.proofs.FileLine.{file-line-room}
 use borrow.Author.Needs.{needs}
-use Rattle.list_capture.proofs.main.Statement.{statement}
-use Rattle.list_capture.proofs.main.Tie as tie
-
-large-buffer-requires : tie.Need-large-buffer-requires
-large-buffer-requires c κs = search needs
-
-slice-aggregate-read-full : tie.Need-slice-aggregate-read-full
-slice-aggregate-read-full c = search needs
-
-read-full-requires : tie.Need-read-full-requires
-read-full-requires c κs = search needs
-
-array-share-prefix-file : tie.Need-array-share-prefix-file
-array-share-prefix-file c = search needs
-
-slice-aggregate-file-line : tie.Need-slice-aggregate-file-line
-slice-aggregate-file-line c = search needs
+use Rattle.list_capture.proofs.write_line.Statement.{statement}
+use Rattle.list_capture.proofs.write_line.Tie as tie
 
 file-line-requires : tie.Need-file-line-requires
 file-line-requires c κs = search needs
@@ -40,20 +25,27 @@ slice-aggregate-write-all c =
 write-all-requires : tie.Need-write-all-requires
 write-all-requires c κs = search needs
 
+slice-aggregate-fail : tie.Need-slice-aggregate-fail
+slice-aggregate-fail c = search needs
+
+fail-requires : tie.Need-fail-requires
+fail-requires c κs = search needs
+
 returns : tie.Need-returns
 returns c = search needs
 
-pub main-spec : {M : Type 1} → statement M
-main-spec =
+returns-2 : tie.Need-returns-2
+returns-2 c = search needs
+
+pub write-line-spec : {M : Type 1} → statement M
+write-line-spec =
     tie.close
     (tie.spec
-    large-buffer-requires
-    slice-aggregate-read-full
-    read-full-requires
-    array-share-prefix-file
-    slice-aggregate-file-line
     file-line-requires
     array-share-prefix-bytes
     slice-aggregate-write-all
     write-all-requires
-    returns)
+    slice-aggregate-fail
+    fail-requires
+    returns
+    returns-2)
