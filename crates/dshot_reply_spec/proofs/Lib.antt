@@ -22,5 +22,6 @@ pub mod Simulated
 pub mod PeriodLaws
 pub mod Period
 pub mod ZeroPeriod
+pub mod ValuePeriod
 pub mod ReadingKinds
 pub mod Documents

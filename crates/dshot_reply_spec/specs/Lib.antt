@@ -11,5 +11,6 @@ pub mod Move
 pub mod Claims
 pub mod Simulate
 pub mod Period
+pub mod ValuePeriod
 pub mod Betaflight
 pub mod Edt

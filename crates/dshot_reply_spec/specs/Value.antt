@@ -24,9 +24,16 @@ pub data Reading : Type 0 where
 unfoldable pub speedOf : ℕ → Answer Reading
 speedOf period = if eqb period 0 then refused zeroPeriod else given (erpm (nearest 600000 period))
 
--- a period is the lowest nine bits, shifted left by the top three: 0xFFF is a stopped rotor
+-- a period is the lowest nine bits, shifted left by the top three, and so a multiple of the step that these three give
+abbrev pub periodOf : ℕ → ℕ
+periodOf v = v % 512 * 2 ^ (v / 512)
+
+abbrev pub stepOf : ℕ → ℕ
+stepOf v = 2 ^ (v / 512)
+
+-- 0xFFF is a stopped rotor
 unfoldable pub speedValue : ℕ → Answer Reading
-speedValue v = if eqb v 0xfff then given (erpm 0) else speedOf (v % 512 * 2 ^ (v / 512))
+speedValue v = if eqb v 0xfff then given (erpm 0) else speedOf (periodOf v)
 
 -- a typed reading, by half its type nibble
 unfoldable pub readingOf : ℕ → ℕ → Reading
