@@ -6,7 +6,8 @@ use lib.Dec.{eqb}
 use Rattle.dshot_reply_spec.proofs.Inverse.{injective}
 use Rattle.dshot_reply_spec.specs.Answer.{Answer, given, refused, pick}
 use Rattle.dshot_reply_spec.specs.Value.{Reading, erpm, temp, volt, amp, debug, state, edt}
-use Rattle.dshot_reply.specs.Answers.{errorNumber, transitionsAnswer, decodedAnswer, reading, replyAnswer, periodAnswer, simulatedNumber}
+use Rattle.dshot_reply_spec.specs.ValuePeriod as Told
+use Rattle.dshot_reply.specs.Answers.{errorNumber, transitionsAnswer, decodedAnswer, reading, replyAnswer, valuePeriodAnswer, periodAnswer, simulatedNumber}
 use Rattle.dshot_reply.specs.declared.DshotReplyError.{DshotReplyError}
 use Rattle.dshot_reply.specs.declared.DshotReplyError.the-variants.{NoReply, Overlong, InvalidSymbol, Checksum, ZeroPeriod}
 use Rattle.dshot_reply.specs.declared.Transitions.{Transitions}
@@ -17,6 +18,8 @@ use Rattle.dshot_reply.specs.declared.DshotReply.{DshotReply}
 use Rattle.dshot_reply.specs.declared.DshotReply.the-variants.{Erpm, Temperature, Voltage, Current, Debug, StateEvent, ExtendedTelemetryEnabled}
 use Rattle.dshot_reply.specs.declared.ReplyRead.{ReplyRead}
 use Rattle.dshot_reply.specs.declared.ReplyRead.the-variants as Read
+use Rattle.dshot_reply.specs.declared.period.ValuePeriod.{ValuePeriod}
+use Rattle.dshot_reply.specs.declared.period.ValuePeriod.the-variants as Stands
 use Rattle.dshot_reply.specs.declared.simulate.PeriodValue.{PeriodValue}
 use Rattle.dshot_reply.specs.declared.simulate.PeriodValue.the-variants as Period
 use Rattle.dshot_reply.specs.declared.simulate.Simulated.{Simulated}
@@ -90,6 +93,18 @@ read-back (Read.Refused e) = ap (λ (x : DshotReplyError). Read.Refused x) (erro
 
 pub replyAnswer-injective : (r s : ReplyRead) → replyAnswer r ≡ replyAnswer s → r ≡ s
 replyAnswer-injective = injective replyAnswer readOfAnswer read-back
+
+valuePeriodOfAnswer : Answer Told.Period → ValuePeriod
+valuePeriodOfAnswer (given q) = Stands.Period (q .microseconds) (q .step)
+valuePeriodOfAnswer (refused n) = Stands.ZeroPeriod
+
+value-period-back : (p : ValuePeriod) → valuePeriodOfAnswer (valuePeriodAnswer p) ≡ p
+unfolding valuePeriodOfAnswer
+value-period-back (Stands.Period p s) = refl
+value-period-back Stands.ZeroPeriod = refl
+
+pub valuePeriodAnswer-injective : (p q : ValuePeriod) → valuePeriodAnswer p ≡ valuePeriodAnswer q → p ≡ q
+valuePeriodAnswer-injective = injective valuePeriodAnswer valuePeriodOfAnswer value-period-back
 
 periodOfAnswer : Answer ℕ → PeriodValue
 periodOfAnswer (given v) = Period.Value v

@@ -4,6 +4,7 @@ use Prim.Native.Nat.{ℕ}
 use Rattle.dshot_reply_spec.specs.Answer.{Answer, given, refused}
 use Rattle.dshot_reply_spec.specs.Refusals.{noReply, overlong, invalidSymbol, wrongChecksum, zeroPeriod, noMask, wrongLength, periodOutOfRange}
 use Rattle.dshot_reply_spec.specs.Value.{Reading, erpm, temp, volt, amp, debug, state, edt}
+use Rattle.dshot_reply_spec.specs.ValuePeriod as Told
 use Rattle.dshot_reply.specs.declared.DshotReplyError.{DshotReplyError}
 use Rattle.dshot_reply.specs.declared.DshotReplyError.the-variants.{NoReply, Overlong, InvalidSymbol, Checksum, ZeroPeriod}
 use Rattle.dshot_reply.specs.declared.Transitions.{Transitions}
@@ -14,6 +15,8 @@ use Rattle.dshot_reply.specs.declared.DshotReply.{DshotReply}
 use Rattle.dshot_reply.specs.declared.DshotReply.the-variants.{Erpm, Temperature, Voltage, Current, Debug, StateEvent, ExtendedTelemetryEnabled}
 use Rattle.dshot_reply.specs.declared.ReplyRead.{ReplyRead}
 use Rattle.dshot_reply.specs.declared.ReplyRead.the-variants as Read
+use Rattle.dshot_reply.specs.declared.period.ValuePeriod.{ValuePeriod}
+use Rattle.dshot_reply.specs.declared.period.ValuePeriod.the-variants as Stands
 use Rattle.dshot_reply.specs.declared.simulate.PeriodValue.{PeriodValue}
 use Rattle.dshot_reply.specs.declared.simulate.PeriodValue.the-variants as Period
 use Rattle.dshot_reply.specs.declared.simulate.Simulated.{Simulated}
@@ -51,6 +54,11 @@ reading ExtendedTelemetryEnabled = edt
 abbrev pub replyAnswer : ReplyRead → Answer Reading
 replyAnswer (Read.Reply r) = given (reading r)
 replyAnswer (Read.Refused e) = refused (errorNumber e)
+
+-- the period of a value
+abbrev pub valuePeriodAnswer : ValuePeriod → Answer Told.Period
+valuePeriodAnswer (Stands.Period p s) = given (record { microseconds = p; step = s })
+valuePeriodAnswer Stands.ZeroPeriod = refused zeroPeriod
 
 -- the value of a period
 abbrev pub periodAnswer : PeriodValue → Answer ℕ

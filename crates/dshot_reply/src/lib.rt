@@ -33,8 +33,9 @@ ghost use Rattle.dshot_reply_spec.specs.Reading.{wordReply, sampledReply};
 ghost use Rattle.dshot_reply.specs.Answers.{transitionsAnswer, decodedAnswer, reading, replyAnswer, errorNumber};
 ghost use Rattle.dshot_reply.specs.Steps.{Encodes, Decodes, sameFor, closed};
 
-// Not in the source: a reply as two numbers, the numbers of refusals, and the simulated ESC.
+// Not in the source: a reply as two numbers, the period of a value, the numbers of refusals, and the simulated ESC.
 pub mod kind;
+pub mod period;
 pub mod refusals;
 pub mod simulate;
 

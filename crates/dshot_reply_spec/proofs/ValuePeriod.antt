@@ -2,23 +2,21 @@
 -- Assumes nothing.
 use mathlib.Core.Path.{_≡_, refl, sym, ap, _∙_}
 use mathlib.Core.Logic.{⊎-elim}
-use mathlib.Core.Bool.{Bool, true, false, not, _&&_, _||_}
+use mathlib.Core.Bool.{Bool, false, not, _&&_, _||_}
 use Prim.Native.Nat.{ℕ, _*_, _/_, _%_, _^_, _<_}
-use native.Mathlib.Nat.{div-one, mod-eq-of-lt, mod-lt}
+use native.Mathlib.Nat.{mod-eq-of-lt, mod-lt}
 use native.Mathlib.Omega.{arith}
 use lib.Dec.{eqb}
 use lib.Pow.{pow-mono, pow-pos, split}
-use borrow.Author.Tests.{eqb-false, ne-eqb}
-use Rattle.dshot_reply_spec.proofs.Cases.{lt-or-ge}
+use borrow.Author.Tests.{eq-eqb, eqb-false, ne-eqb}
+use Rattle.dshot_reply_spec.proofs.Cases.{equal-or-not, lt-or-ge}
 use Rattle.dshot_reply_spec.proofs.Choice.{not-both, not-first, not-second}
 use Rattle.dshot_reply_spec.proofs.Period.{period-small, period-value}
-use Rattle.dshot_reply_spec.specs.Answer.{given, pick, refused, andThen}
+use Rattle.dshot_reply_spec.specs.Answer.{given}
 use Rattle.dshot_reply_spec.specs.Kind.{kindNumber}
-use Rattle.dshot_reply_spec.specs.Nearest.{nearest}
 use Rattle.dshot_reply_spec.specs.Period.{SmallestExponent, periodValue, scaled}
-use Rattle.dshot_reply_spec.specs.Refusals.{zeroPeriod}
 use Rattle.dshot_reply_spec.specs.Value.{erpm, periodOf, readingOf, replyOf, speedOf, speedValue, stepOf}
-use Rattle.dshot_reply_spec.specs.ValuePeriod.{Period, RoundedDown, periodReply, periodSpeed, valuePeriod}
+use Rattle.dshot_reply_spec.specs.ValuePeriod.{Period, RoundedDown, periodReply, valuePeriod}
 
 -- ---- 1: the value of a period
 
@@ -40,7 +38,7 @@ module _ (p v : ℕ) (r : SmallestExponent p v) where
       let same : periodOf v ≡ p / stepOf v * stepOf v = ap (λ (n : ℕ). n * stepOf v) left-back in
       record { multiple = same; least = omega arith; most = omega arith }
 
-  -- a period above 0 is told as one above 0: it is less than its step only where it is less than 1
+  -- a period above 0 is told as one above 0: where its exponent is above 0, the period is above 511 and its step at most 128
   told-some : 0 < p → periodOf v ≡ 0 → ⊥
   told-some some none =
       let below : p < stepOf v = omega (arith, rounded .most) in
@@ -73,17 +71,15 @@ period-1234 = (refl, refl)
 -- the speed of a value is that of its period
 by-period : (v : ℕ) → speedValue (v % 4096) ≡ periodReply v
 unfolding speedValue speedOf valuePeriod
-by-period v = go (eqb u 0xfff) (eqb (periodOf u) 0) refl
-  where
-    u : ℕ
-    u = v % 4096
-
-    go : (rests none : Bool) → eqb (periodOf u) 0 ≡ none
-        → pick rests (given (erpm 0)) (pick none (refused zeroPeriod) (given (erpm (nearest 600000 (periodOf u)))))
-        ≡ andThen (pick rests (given (record { microseconds = 0; step = 0 })) (pick none (refused zeroPeriod) (given (told u)))) (λ q. given (periodSpeed q))
-    go true none e = refl
-    go false true e = refl
-    go false false e = rw e
+by-period v =
+    let u = v % 4096 in
+    ⊎-elim
+    (λ rests. rw (eq-eqb u 0xfff rests))
+    (λ turns. ⊎-elim
+    (λ none. rw (ne-eqb u 0xfff turns, eq-eqb (periodOf u) 0 none))
+    (λ some. simp (ne-eqb u 0xfff turns, ne-eqb (periodOf u) 0 some))
+    (equal-or-not (periodOf u) 0))
+    (equal-or-not u 0xfff)
 
 -- 2: with EDT off each value but the acknowledgement reads as its period tells: at rest, refused with 11, or the speed
 pub value-speed : (v : ℕ) → (v % 4096 ≡ 0xe00 → ⊥) → replyOf v false ≡ periodReply v
@@ -97,8 +93,7 @@ typed-other half d n e =
     let a = not-first (eqb half 1) e (λ f. omega (arith, ap kindNumber f)) in
     let b = not-first (eqb half 2) (a .1) (λ f. omega (arith, ap kindNumber f)) in
     let c = not-first (eqb half 3) (b .1) (λ f. omega (arith, ap kindNumber f)) in
-    let d = not-first (eqb half 7) (c .1) (λ f. omega (arith, ap kindNumber f)) in
-    let f = d .1 in
+    let f = not-first (eqb half 7) (c .1) (λ f. omega (arith, ap kindNumber f)) .1 in
     let z : _≡_ {A = ℕ} 0 1 = cc in
     omega arith
 

@@ -1,6 +1,7 @@
 -- `dshot_reply::speed_value` meets its contract.
 -- Assumes nothing.
 use mathlib.Core.Path.{_∙_}
+use lib.Dec.{lit≤}
 use borrow.Author.Tests.{eq-eqb, ne-eqb}
 use borrow.Author.Needs.{needs}
 use Rattle.dshot_reply.proofs.speed_value.Statement.{statement}
@@ -24,13 +25,13 @@ shl-speed-of c = search needs
 speed-of-requires : tie.Need-speed-of-requires
 speed-of-requires c κs =
     let v = c .before .args .value in
-    rw (period-shl v (c .before .pre)) (period-lt v (c .before .pre))
+    rw (period-shl 32 v (lit≤ tt) (c .before .pre)) (period-lt v (c .before .pre))
 
 returns-2 : tie.Need-returns-2
 unfolding speedValue
 returns-2 c =
     let v = c .before .before .args .value in
-    c .speed-of .ensures ∙ simp (ne-eqb v 0xfff (c .before .if1 .left), period-shl v (c .before .before .pre))
+    c .speed-of .ensures ∙ simp (ne-eqb v 0xfff (c .before .if1 .left), period-shl 32 v (lit≤ tt) (c .before .before .pre))
 
 pub speed-value-spec : {M : Type 1} → statement M
 speed-value-spec =
