@@ -8,6 +8,7 @@ use Rattle.dshot_reply_spec.specs.Answer.{Answer, refused, if_then_else_}
 use Rattle.dshot_reply_spec.specs.Refusals.{wrongLength}
 use Rattle.dshot_reply_spec.specs.Kind.{kindNumber, readingNumber}
 use Rattle.dshot_reply_spec.specs.Value.{Reading}
+use Rattle.dshot_reply_spec.specs.ValuePeriod.{Period}
 
 -- The answer of a call that asks for n slots. If the call is lent another number of slots, it refuses with 13 (wrong length) before all else.
 unfoldable pub asked : {A : Type 0} → ℕ → List ℕ → Answer A → Answer A
@@ -24,3 +25,7 @@ halves n = n % 65536 ∷ n / 65536 ∷ []
 -- a reading in three slots: its kind in one, and its number in two
 abbrev pub readingSlots : Reading → List ℕ
 readingSlots r = kindNumber r ∷ halves (readingNumber r)
+
+-- the period of a value in two slots: its microseconds and its step
+abbrev pub periodSlots : Period → List ℕ
+periodSlots q = q .microseconds ∷ q .step ∷ []

@@ -5,8 +5,11 @@ use dshot_reply::DshotReply;
 use dshot_reply::ReplyRead;
 use dshot_reply::Transitions;
 use dshot_reply::kind;
+use dshot_reply::period;
+use dshot_reply::period::ValuePeriod;
 use dshot_reply::refusals::PERIOD_OUT_OF_RANGE;
 use dshot_reply::refusals::WRONG_LENGTH;
+use dshot_reply::refusals::ZERO_PERIOD;
 use dshot_reply::simulate;
 use dshot_reply::simulate::PeriodValue;
 ghost use mathlib.Core.Path.{_≡_};
@@ -21,8 +24,9 @@ ghost use Rattle.dshot_reply_spec.specs.Value.{replyOf};
 ghost use Rattle.dshot_reply_spec.specs.Reading.{sampledReply};
 ghost use Rattle.dshot_reply_spec.specs.Simulate.{simulated};
 ghost use Rattle.dshot_reply_spec.specs.Period.{periodValue};
+ghost use Rattle.dshot_reply_spec.specs.ValuePeriod.{valuePeriod};
 ghost use Rattle.dshot_reply.specs.Answers.{replyAnswer};
-ghost use Rattle.kuzhenga.specs.Slots.{asked, one, halves, readingSlots};
+ghost use Rattle.kuzhenga.specs.Slots.{asked, one, halves, readingSlots, periodSlots};
 
 // The reply word of `value` modulo 4096.
 #[no_mangle]
@@ -149,6 +153,25 @@ pub extern "C" fn kuzhenga_period_value(period_us: u32, value: &mut [u16]) -> u3
             0
         }
         PeriodValue::OutOfRange => PERIOD_OUT_OF_RANGE,
+    }
+}
+
+// The period that `value` modulo 4096 stands for, and its step, in two slots.
+#[no_mangle]
+pub extern "C" fn kuzhenga_value_period(value: u32, period: &mut [u16]) -> u32
+    ensures { λ r. ⌜ r ≡ refusalNumber (asked 2 (now (period .entry)) (valuePeriod (value % 4096))) ⌝ }
+    ensures { λ r. ⌜ now (period .exit) ≡ filled periodSlots (now (period .entry)) (asked 2 (now (period .entry)) (valuePeriod (value % 4096))) ⌝ }
+{
+    if period.len() != 2 {
+        return WRONG_LENGTH;
+    }
+    match period::value_period((value % 4096) as u16) {
+        ValuePeriod::Period { period_us, step_us } => {
+            period[0] = period_us;
+            period[1] = step_us;
+            0
+        }
+        ValuePeriod::ZeroPeriod => ZERO_PERIOD,
     }
 }
 
