@@ -1,4 +1,4 @@
--- `kuzhenga::reply::kuzhenga_value_period` answers as `valuePeriod`, with the period and its step in its two slots; lent another number of slots, it answers 13.
+-- `kuzhenga::reply::kuzhenga_value_period` answers as `valuePeriod`, with the period and its step in two slots; lent another number, it answers 13.
 -- Assumes nothing.
 use mathlib.Core.Path.{refl, sym, ap, _∙_}
 use borrow.Author.Needs.{needs}
