@@ -97,6 +97,54 @@ static void refusals(void)
     expect("13 before 12", kuzhenga_bank_command_special(bank, slots, 4, run, 3), KUZHENGA_WRONG_LENGTH);
 }
 
+/* ---- periods -------------------------------------------------------------------------------------------------- */
+
+/* With EDT off each value but the acknowledgement of EDT reads as the speed of its period. */
+static void value_periods(void)
+{
+    for (uint32_t value = 0; value < 4096; value++) {
+        struct kuzhenga_reading reading = KUZHENGA_NO_READING;
+        struct kuzhenga_period period = {{65535, 65535}};
+        uint32_t refusal = kuzhenga_reply_from_value(value, 0, reading.slots, KUZHENGA_READING_SLOTS);
+        if (value == 0xe00)
+            refusal = KUZHENGA_ZERO_PERIOD;
+        /* Of a value the low twelve bits count. */
+        expect("value_period", kuzhenga_value_period(value | 0xabcd7000, period.slots, KUZHENGA_PERIOD_SLOTS), refusal);
+        uint32_t us = kuzhenga_period_us(period), step = kuzhenga_period_step(period);
+        expect("the step of a value", step, refusal ? 65535 : value == 0xfff ? 0 : 1u << value / 512);
+        if (refusal == KUZHENGA_DONE)
+            expect("the speed of a period", kuzhenga_reading_number(reading), us ? (600000 + us / 2) / us : 0);
+    }
+}
+
+/* The period that a value stands for. */
+static struct kuzhenga_period told(uint32_t value)
+{
+    struct kuzhenga_period period = {{65535, 65535}};
+    expect("value_period", kuzhenga_value_period(value, period.slots, KUZHENGA_PERIOD_SLOTS), KUZHENGA_DONE);
+    return period;
+}
+
+/* A period is told rounded down to a multiple of its step; from 65408 on as at rest. */
+static void rounded(uint32_t period, uint32_t value)
+{
+    uint32_t us = kuzhenga_period_us(told(value)), step = kuzhenga_period_step(told(value));
+    expect("a period that is told", us, period < 65408 ? period - period % (step ? step : 1) : 0);
+    expect("a period in its step", period < us + step, period < 65408);
+}
+
+static void some_periods(void)
+{
+    struct kuzhenga_period period = told(0x534); /* the value of 1234 */
+    expect("1234 as it is told", kuzhenga_period_us(period), 1232);
+    expect("the step of 1234", kuzhenga_period_step(period), 4);
+    expect("13 before 11", kuzhenga_value_period(0x200, period.slots, 1), KUZHENGA_WRONG_LENGTH);
+    expect("11", kuzhenga_value_period(0x200, period.slots, KUZHENGA_PERIOD_SLOTS), KUZHENGA_ZERO_PERIOD);
+    expect("and the slots stay", kuzhenga_period_us(period), 1232);
+    expect("at rest", kuzhenga_period_us(told(0xfff)), 0);
+    expect("the step at rest", kuzhenga_period_step(told(0xfff)), 0);
+}
+
 /* ---- the simulated ESC and the bench's line ------------------------------------------------------------------- */
 
 static void periods(void)
@@ -108,6 +156,7 @@ static void periods(void)
             exponent++;
         expect("period_value", kuzhenga_period_value(period, value, 1), KUZHENGA_DONE);
         expect("a value", value[0], 512 * exponent + (period >> exponent));
+        rounded(period, value[0]);
     }
 }
 
@@ -249,6 +298,8 @@ static void runs(void)
 int main(void)
 {
     refusals();
+    value_periods();
+    some_periods();
     periods();
     simulated();
     line();

@@ -277,6 +277,8 @@ static void replies(void)
     a = show_any(160, 2), b = lend(3, 2);
     check("decode_sampled_reply", kuzhenga_decode_sampled_reply(SLOTS(a), number(), number(), SLOTS(b)),
           B(7) | B(8) | B(9) | B(10) | B(11) | B(13));
+    a = lend(2, 2);
+    check("value_period", kuzhenga_value_period(number(), SLOTS(a)), B(11) | B(13));
     a = lend(1, 2);
     check("period_value", kuzhenga_period_value(number(), SLOTS(a)), B(13) | B(16));
     a = lend_any(160, 2);

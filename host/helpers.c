@@ -12,10 +12,13 @@ static void readings(void)
 {
     const struct kuzhenga_reading speed = {{KUZHENGA_ERPM, 600, 0}}, most = {{KUZHENGA_ERPM, 10176, 9}};
     const struct kuzhenga_word word = {{0xbdf9, 0x17}};
+    const struct kuzhenga_period period = {{65280, 128}};
     expect("the kind of a reading", kuzhenga_reading_kind(speed), KUZHENGA_ERPM);
     expect("the number of a reading", kuzhenga_reading_number(speed), 600);
     expect("the largest speed", kuzhenga_reading_number(most), 600000);
     expect("a word", kuzhenga_word_bits(word), 0x17bdf9);
+    expect("the longest period", kuzhenga_period_us(period), 65280);
+    expect("its step", kuzhenga_period_step(period), 128);
     const struct kuzhenga_reading none = KUZHENGA_NO_READING;
     expect("the kind of no reading", kuzhenga_reading_kind(none), KUZHENGA_NO_KIND);
     expect("the number of no reading", kuzhenga_reading_number(none), KUZHENGA_NO_NUMBER);

@@ -156,6 +156,17 @@ KUZHENGA_CHECK
 uint32_t kuzhenga_decode_sampled_reply(const uint16_t *samples, size_t samples_len, uint32_t pin_mask,
                                        uint32_t extended_telemetry, uint16_t *reading, size_t reading_len /* 3 */);
 
+/* The period of an electrical turn that a value stands for, and its step, both in microseconds: 13 WRONG_LENGTH,
+ * 11 ZERO_PERIOD. At rest both are 0. Of the value the low twelve bits count. It must be a value that reads as a speed:
+ * if EDT is on, some values are other readings. If the ESC drops the bits that do not fit, as the simulated one does,
+ * its true period is at least the period, and less than period + step. */
+#define KUZHENGA_PERIOD_SLOTS 2
+struct kuzhenga_period { uint16_t slots[KUZHENGA_PERIOD_SLOTS]; };
+static inline uint32_t kuzhenga_period_us(struct kuzhenga_period period) { return period.slots[0]; }
+static inline uint32_t kuzhenga_period_step(struct kuzhenga_period period) { return period.slots[1]; }
+KUZHENGA_CHECK
+uint32_t kuzhenga_value_period(uint32_t value, uint16_t *period, size_t period_len /* 2 */);
+
 /* ---- the simulated ESC ------------------------------------------------------------------------------------------ */
 /* The value that is sent for the period of an electrical turn, in one slot: 13 WRONG_LENGTH, 16 PERIOD_OUT_OF_RANGE. It
  * is 512 x exponent + period / 2^exponent. The exponent is the smallest that leaves at most 511; the bits shifted out
