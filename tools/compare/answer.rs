@@ -19,7 +19,7 @@ impl Answer {
         }
     }
 
-    fn done(written: &[u16]) -> Self {
+    pub fn done(written: &[u16]) -> Self {
         let mut answer = Self::refused(0);
         answer.slots[..written.len()].copy_from_slice(written);
         answer

@@ -25,6 +25,7 @@ extern "C" {
         reading: *mut u16,
         three: usize,
     ) -> u32;
+    pub fn kuzhenga_value_period(value: u32, period: *mut u16, two: usize) -> u32;
     pub fn kuzhenga_period_value(period_us: u32, value: *mut u16, one: usize) -> u32;
     pub fn kuzhenga_simulate_reply(
         samples: *mut u16,

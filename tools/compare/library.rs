@@ -3,12 +3,13 @@
 
 use crate::answer::{Answer, UNTOUCHED};
 use crate::exports::*;
-use crate::spoil::{self, SAMPLED_WITH_EDT};
+use crate::spoil::{self, SAMPLED_WITH_EDT, VALUE_PERIOD};
 
-/// The slots that a word, a value and a reading take.
+/// The slots that a word, a value, a reading and a period with its step take.
 pub const WORD: usize = 2;
 pub const VALUE: usize = 1;
 pub const READING: usize = 3;
+pub const PERIOD: usize = 2;
 
 /// The kind is that of the stored list.
 fn lent(kind: usize, slots: usize, call: impl FnOnce(*mut u16) -> u32) -> Answer {
@@ -57,6 +58,12 @@ pub fn decode_sampled_reply(samples: &[u16], mask: u32, edt: u32, slots: usize) 
     let kind = if edt == 0 { 5 } else { SAMPLED_WITH_EDT };
     lent(kind, slots, |reading| unsafe {
         kuzhenga_decode_sampled_reply(from, n, mask, edt, reading, slots)
+    })
+}
+
+pub fn value_period(value: u32, slots: usize) -> Answer {
+    lent(VALUE_PERIOD, slots, |period| unsafe {
+        kuzhenga_value_period(value, period, slots)
     })
 }
 

@@ -25,6 +25,7 @@ mod library;
 mod moves;
 mod original;
 mod packet_parts;
+mod period_check;
 mod plain;
 mod plain_frames;
 mod random;
@@ -75,6 +76,7 @@ fn replies(count: u64, report: &mut impl FnMut(Tally)) {
     report(value_parts::wide_words());
     report(value_parts::values());
     report(value_parts::reply_words());
+    report(value_parts::value_periods());
     report(value_parts::periods());
     capture_parts::simulated()
         .into_iter()

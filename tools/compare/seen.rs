@@ -6,7 +6,8 @@ use crate::checks;
 use crate::frame_call::{Call, ROOM};
 use crate::frame_check::frame;
 use crate::library::BEHIND;
-use crate::spoil::{spoil, spoil_nothing, ANY, FRAMES, SAMPLED_WITH_EDT};
+use crate::period_check::value_period;
+use crate::spoil::{spoil, spoil_nothing, ANY, FRAMES, SAMPLED_WITH_EDT, VALUE_PERIOD};
 use crate::tally::Tally;
 use crate::{frames, plain, replies, timings};
 
@@ -18,13 +19,14 @@ const ANSWER: usize = 1 + 4;
 /// The kind of a call, how many numbers its answer has, and the comparison of such a call.
 type Kind = (usize, usize, fn(&mut Tally));
 
-const REPLIES: [Kind; 8] = [
+const REPLIES: [Kind; 9] = [
     (1, 1, |tally| checks::reply_transitions_for(tally, 0x123)),
     (2, ANSWER, |tally| checks::decode_gcr(tally, 0x17_bdf9)),
     (3, ANSWER, |tally| checks::reply_from_value(tally, 0x123, 0)),
     (4, ANSWER, a_capture),
     (5, ANSWER, a_capture),
     (SAMPLED_WITH_EDT, ANSWER, a_capture),
+    (VALUE_PERIOD, ANSWER, |tally| value_period(tally, 0x534)),
     (6, ANSWER, |tally| checks::period_value(tally, 1000)),
     (7, 1 + LENGTH + BEHIND, |tally| {
         checks::simulate_reply(tally, LENGTH, 0x123, 1, 1);

@@ -2,7 +2,7 @@
 //! answers 13 (wrong length), before any other refusal, and writes nothing.
 
 use crate::answer::Answer;
-use crate::library::{self, READING, VALUE, WORD};
+use crate::library::{self, PERIOD, READING, VALUE, WORD};
 use crate::tally::Tally;
 use crate::{original, plain};
 
@@ -43,12 +43,14 @@ fn each_call(tally: &mut Tally, given: &Given, slots: usize) {
     let value = library::decode_gcr(given.word, slots);
     let reading = library::reply_from_value(given.value, 0, slots);
     let sampled = library::decode_sampled_reply(samples, 1, 0, slots);
+    let told = library::value_period(given.value, slots);
     let period = library::period_value(given.period, slots);
     let answers = [
         ("reply_transitions", WORD, word),
         ("decode_gcr", VALUE, value),
         ("reply_from_value", READING, reading),
         ("decode_sampled_reply", READING, sampled),
+        ("value_period", PERIOD, told),
         ("period_value", VALUE, period),
     ];
     for (name, right, answer) in answers {

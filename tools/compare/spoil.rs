@@ -4,13 +4,14 @@
 use std::ops::BitXorAssign;
 use std::sync::atomic::{AtomicUsize, Ordering};
 
-/// Calls by their kinds in the stored list. A reading with EDT on and a call on frames have numbers
-/// of their own.
+/// Calls by their kinds in the stored list. A reading with EDT on, a call on frames and the period
+/// of a value have numbers of their own.
 pub const SAMPLED_WITH_EDT: usize = 24;
 pub const FRAMES: usize = 25;
+pub const VALUE_PERIOD: usize = 26;
 
 /// Calls of every kind.
-pub const ANY: usize = 26;
+pub const ANY: usize = 27;
 
 /// The kind that is spoiled, or 0 for none, and the place of the number. Place 0 is what the call
 /// returned. The slots follow.

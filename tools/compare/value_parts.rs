@@ -1,6 +1,7 @@
 //! Parts 1 to 3: the calls on numbers, over all or nearly all of their inputs.
 
 use crate::checks;
+use crate::period_check::value_period;
 use crate::random::Random;
 use crate::tally::Tally;
 
@@ -42,6 +43,16 @@ pub fn reply_words() -> Tally {
     for value in 0..1 << 16 {
         checks::reply_transitions_for(&mut tally, value);
         checks::reply_transitions_for(&mut tally, random.word() << 16 | value);
+    }
+    tally
+}
+
+pub fn value_periods() -> Tally {
+    let mut tally = Tally::new("2 value_period, all 16-bit values, with the source's speeds");
+    let mut random = Random::new(25);
+    for value in 0..1 << 16 {
+        value_period(&mut tally, value);
+        value_period(&mut tally, random.word() << 16 | value);
     }
     tally
 }
