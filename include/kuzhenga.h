@@ -48,7 +48,7 @@ extern "C" {
 #endif
 
 #define KUZHENGA_VERSION_MAJOR 0
-#define KUZHENGA_VERSION_MINOR 2
+#define KUZHENGA_VERSION_MINOR 3
 #define KUZHENGA_VERSION_PATCH 0
 #define KUZHENGA_LANES 4 /* a lane is one motor's timer channel and DMA stream, 0 to 3 */
 
@@ -156,10 +156,10 @@ KUZHENGA_CHECK
 uint32_t kuzhenga_decode_sampled_reply(const uint16_t *samples, size_t samples_len, uint32_t pin_mask,
                                        uint32_t extended_telemetry, uint16_t *reading, size_t reading_len /* 3 */);
 
-/* The period of an electrical turn that a value stands for, and its step, both in microseconds: 13 WRONG_LENGTH,
- * 11 ZERO_PERIOD. At rest both are 0. Of the value the low twelve bits count. It must be a value that reads as a speed:
- * if EDT is on, some values are other readings. If the ESC drops the bits that do not fit, as the simulated one does,
- * its true period is at least the period, and less than period + step. */
+/* Gives the period of an electrical turn that a value stands for, and its step, both in microseconds: 13 WRONG_LENGTH,
+ * 11 ZERO_PERIOD. At rest both are 0. Only the value's low twelve bits count. The value must be one that reads as a
+ * speed: if EDT is on, some values are other readings. The simulated ESC drops the bits that do not fit. If an ESC does
+ * so, its true period is at least the period, and less than period + step. */
 #define KUZHENGA_PERIOD_SLOTS 2
 struct kuzhenga_period { uint16_t slots[KUZHENGA_PERIOD_SLOTS]; };
 static inline uint32_t kuzhenga_period_us(struct kuzhenga_period period) { return period.slots[0]; }
@@ -168,13 +168,13 @@ KUZHENGA_CHECK
 uint32_t kuzhenga_value_period(uint32_t value, uint16_t *period, size_t period_len /* 2 */);
 
 /* ---- the simulated ESC ------------------------------------------------------------------------------------------ */
-/* The value that is sent for the period of an electrical turn, in one slot: 13 WRONG_LENGTH, 16 PERIOD_OUT_OF_RANGE. It
- * is 512 x exponent + period / 2^exponent. The exponent is the smallest that leaves at most 511; the bits shifted out
- * are dropped. From 65408 on it is 0xFFF, which reads as at rest. */
+/* Gives the value that is sent for the period of an electrical turn, in one slot: 13 WRONG_LENGTH,
+ * 16 PERIOD_OUT_OF_RANGE. The value is 512 x exponent + period / 2^exponent. The exponent is the smallest that leaves
+ * at most 511. The bits that are shifted out are dropped. From 65408 on the value is 0xFFF, which reads as at rest. */
 KUZHENGA_CHECK
 uint32_t kuzhenga_period_value(uint32_t period_us, uint16_t *value, size_t value_len /* 1 */);
 
-/* The capture that a value's reply leaves: 13 WRONG_LENGTH (fewer samples than lead + 69 REPLY_SAMPLES), 12 NO_MASK.
+/* Writes the capture that a value's reply leaves: 13 WRONG_LENGTH (fewer samples than lead + 69 REPLY_SAMPLES), 12 NO_MASK.
  * `lead` is the number of high samples before the reply. Each bit takes three samples, and the rest is high. The call
  * writes every sample. A high sample is the whole mask, and a low one is 0. The value is one of kuzhenga_period_value,
  * not a period. Only the value's low twelve bits and the mask's low sixteen bits count. */
@@ -559,7 +559,9 @@ uint32_t kuzhenga_bank_sending(const uint16_t *bank, size_t bank_len, const uint
  * not renewed. */
 uint32_t kuzhenga_fallback_release_due(uint32_t now_ms, uint32_t last_release_ms);
 
-/* Changes since 0.1.0. If no replies are held, each lane has 7 NO_REPLY, and no longer zeros. An order to exchange
+/* New in 0.3.0: kuzhenga_value_period.
+ *
+ * Changes in 0.2.0. If no replies are held, each lane has 7 NO_REPLY, and no longer zeros. An order to exchange
  * names its buffer. This header no longer says where the fields of a state lie. A state's stored replies have the kinds
  * of readings. If a run's index in a state is above 1, the run is spent, however large the index is. */
 
