@@ -344,9 +344,9 @@ def make_capture(*, value=None, period_us=None, lead=10, mask=1, samples=160, ed
 
 
 def period(value):
-    """The period of an electrical turn that a speed's value tells, and its step, both in microseconds.
+    """The period of an electrical turn that a speed's value stands for, and its step, both in microseconds.
 
-    The step is the distance of the next period that the value's exponent can tell. At rest both are 0. Refused with 11
+    A period of 1234 is sent as 1232, in steps of 4. At rest both are 0. If the period is 0, Refused is raised with 11
     (ZERO_PERIOD). If the library is too old to have this call, LibraryError is raised.
     """
     parts = _slots(2)

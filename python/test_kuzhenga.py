@@ -144,16 +144,7 @@ class RandomCaptures(unittest.TestCase):
 
 
 class Periods(unittest.TestCase):
-    def setUp(self):
-        try:
-            kuzhenga.period(0xFFF)
-            self.has_call = True
-        except kuzhenga.LibraryError:
-            self.has_call = False
-
     def test_periods(self):
-        if not self.has_call:
-            self.skipTest("the library has no call kuzhenga_value_period")
         self.assertEqual(kuzhenga.period(0xFFF), (0, 0))
         for value in range(0xFFF):
             exponent, base = value >> 9, value & 511
@@ -163,17 +154,9 @@ class Periods(unittest.TestCase):
             kuzhenga.period(0x200)
 
     def test_sent_periods(self):
-        if not self.has_call:
-            self.skipTest("the library has no call kuzhenga_value_period")
         for sent in range(1, 65408, 37):
             period_us, step_us = kuzhenga.period(kuzhenga.make_capture(period_us=sent).reading().value)
             self.assertTrue(period_us <= sent < period_us + step_us)
-
-    def test_absence(self):
-        if self.has_call:
-            self.skipTest("the library has the call kuzhenga_value_period")
-        with self.assertRaisesRegex(kuzhenga.LibraryError, "has no call kuzhenga_value_period"):
-            kuzhenga.period(0xFFF)
 
 
 if __name__ == "__main__":
