@@ -40,7 +40,7 @@ class Header(unittest.TestCase):
     def test_refusals(self):
         named = {name: number for number, (name, _) in enumerate(kuzhenga.REFUSALS)}
         named[kuzhenga.NO_MASK] = 12
-        stated = defines(between("/* ---- refusals", "/* A line of text for a refusal. */"))
+        stated = defines(between("/* ---- refusals", "kuzhenga_refusal_text("))
         self.assertEqual(named, stated)
         self.assertGreater(len(stated), 22)
 
@@ -51,7 +51,7 @@ class Header(unittest.TestCase):
         self.assertEqual(kuzhenga.Refused(len(texts)).text, unknown)
 
     def test_kinds(self):
-        stated = defines(between("/* ---- readings", "/* For the helpers"))
+        stated = defines(between("/* ---- readings", "kuzhenga_pair_("))
         self.assertEqual({kind.upper(): number for number, kind in enumerate(kuzhenga.KINDS)}, stated)
 
     def test_numbers(self):
