@@ -1,17 +1,17 @@
-// Added: the period that a value stands for, and how fine the value tells it, for the bench.
+// Added: the period that a value stands for, and its step, for the bench.
 
 use crate::ERPM_STOPPED;
 ghost use mathlib.Core.Path.{_≡_};
 ghost use Rattle.dshot_reply_spec.specs.ValuePeriod.{valuePeriod};
 ghost use Rattle.dshot_reply.specs.Answers.{valuePeriodAnswer};
 
-// The period of a value and the step to the next one, both 0 at rest; or that the value has none.
+// The period of a value and the step to the next one, both 0 at rest, or that the period is 0.
 pub enum ValuePeriod {
     Period { period_us: u16, step_us: u16 },
     ZeroPeriod,
 }
 
-// The period of a value that is a speed; of the value the low twelve bits count.
+// The period of a value that is a speed. Only the low twelve bits of the value count.
 pub fn value_period(value: u16) -> ValuePeriod
     ensures { λ r. ⌜ valuePeriodAnswer r ≡ valuePeriod value ⌝ }
 {

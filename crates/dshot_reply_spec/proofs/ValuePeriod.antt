@@ -1,4 +1,4 @@
--- The value of a period tells the period rounded down to a multiple of its step; and a value that reads as a speed reads as the speed of its period.
+-- The value of a period stands for that period, rounded down to a multiple of its step. A value that reads as a speed reads as the speed of its period.
 -- Assumes nothing.
 use mathlib.Core.Path.{_≡_, refl, sym, ap, _∙_}
 use mathlib.Core.Logic.{⊎-elim}
@@ -20,7 +20,7 @@ use Rattle.dshot_reply_spec.specs.ValuePeriod.{Period, RoundedDown, peri
 
 -- ---- 1: the value of a period
 
--- the period and the step that a value tells
+-- the period and the step of a value
 abbrev told : ℕ → Period
 told v = record { microseconds = periodOf v; step = stepOf v }
 
@@ -38,7 +38,7 @@ module _ (p v : ℕ) (r : SmallestExponent p v) where
       let same : periodOf v ≡ p / stepOf v * stepOf v = ap (λ (n : ℕ). n * stepOf v) left-back in
       record { multiple = same; least = omega arith; most = omega arith }
 
-  -- a period above 0 is told as one above 0: where its exponent is above 0, the period is above 511 and its step at most 128
+  -- the value of a period above 0 stands for a period above 0: if the exponent is above 0, the period is above 511 and its step at most 128
   told-some : 0 < p → periodOf v ≡ 0 → ⊥
   told-some some none =
       let below : p < stepOf v = omega (arith, rounded .most) in
@@ -53,7 +53,7 @@ valued-some : (p v : ℕ) → periodValue p ≡ given v → 0 < p
 unfolding periodValue
 valued-some p v e = let n = eqb-false p 0 (not-first (eqb p 0) e (λ f. not-both f refl) .0) in omega arith
 
--- 1: the value of a period that does not read as at rest tells the period rounded down to a multiple of its step
+-- 1: if the value of a period is not 0xFFF (at rest), it stands for that period, rounded down to a multiple of its step
 pub period-kept : (p v : ℕ) → periodValue p ≡ given v → (v ≡ 0xfff → ⊥) → (q : Period) × (valuePeriod v ≡ given q) × RoundedDown p q
 unfolding valuePeriod
 period-kept p v e n =
@@ -61,7 +61,7 @@ period-kept p v e n =
     let some = told-some p v r (valued-some p v e) in
     (told v, rw (mod-eq-of-lt (period-small p v e), ne-eqb v 0xfff n, ne-eqb (periodOf v) 0 some), rounded p v r)
 
--- for one: 1234 microseconds are sent as 0x534, which tells 1232, in steps of 4
+-- an example: 1234 microseconds are sent as 0x534, which stands for 1232, in steps of 4
 pub period-1234 : (periodValue 1234 ≡ given 0x534) × (valuePeriod 0x534 ≡ given (record { microseconds = 1232; step = 4 }))
 unfolding periodValue scaled valuePeriod
 period-1234 = (refl, refl)
@@ -81,7 +81,7 @@ by-period v =
     (equal-or-not (periodOf u) 0))
     (equal-or-not u 0xfff)
 
--- 2: with EDT off each value but the acknowledgement reads as its period tells: at rest, refused with 11, or the speed
+-- 2: with EDT off, each value except the acknowledgement reads as its period says: at rest, refused with 11 (zero period), or a speed
 pub value-speed : (v : ℕ) → (v % 4096 ≡ 0xe00 → ⊥) → replyOf v false ≡ periodReply v
 unfolding replyOf
 value-speed v n = rw (ne-eqb (v % 4096) 0xe00 n) (by-period v)
@@ -97,7 +97,7 @@ typed-other half d n e =
     let z : _≡_ {A = ℕ} 0 1 = cc in
     omega arith
 
--- 3: and so does each value that reads as a speed, with EDT off or on
+-- 3: the same holds for each value that reads as a speed, with EDT off or on
 pub speed-told : (v : ℕ) (extended : Bool) (n : ℕ) → replyOf v extended ≡ given (erpm n) → periodReply v ≡ given (erpm n)
 unfolding replyOf
 speed-told v extended n e =

@@ -24,7 +24,7 @@ pub data Reading : Type 0 where
 unfoldable pub speedOf : ℕ → Answer Reading
 speedOf period = if eqb period 0 then refused zeroPeriod else given (erpm (nearest 600000 period))
 
--- a period is the lowest nine bits, shifted left by the top three, and so a multiple of the step that these three give
+-- a period is the lowest nine bits, shifted left by the top three; so it is a multiple of the step, which the top three give
 abbrev pub periodOf : ℕ → ℕ
 periodOf v = v % 512 * 2 ^ (v / 512)
 

@@ -175,7 +175,7 @@ pub extern "C" fn kuzhenga_value_period(value: u32, period: &mut [u16]) -> u32
     }
 }
 
-// The capture that the simulated ESC's reply of `value` modulo 4096 leaves in a buffer; of the mask the low sixteen bits count.
+// The capture that the simulated ESC's reply of `value` modulo 4096 leaves in a buffer. Only the mask's low sixteen bits count.
 #[no_mangle]
 pub extern "C" fn kuzhenga_simulate_reply(
     samples: &mut [u16],

@@ -4,10 +4,10 @@
 //
 // Without FILE it reads standard input. If that is a terminal, it first says on standard error what it waits for.
 //
-// If there is more than one argument, or if the file cannot be opened or read, it says so on standard error and writes no line. Its exit status is 0
-// all the same, since a program in Rattle cannot set one. A script can tell a failure by an empty standard output.
+// If there is more than one argument, it says so on standard error and writes no line. It does the same if the file cannot be opened or read. Its
+// exit status is always 0, because a program in Rattle cannot set one. So a script tests whether standard output is empty.
 //
-// An input that is longer than the buffer is cut at the buffer's end. It is refused with 17 all the same, as the whole input would be: the longest
+// If an input is longer than the buffer, it is cut at the buffer's end. It is refused with 17 (not a capture), as the whole input would be. The longest
 // file that holds a capture has 12294 bytes, and the buffer has 65536.
 ghost use Rattle.io.specs.Counts.{Counts};
 use capture_file::list::file_line;
@@ -79,7 +79,7 @@ struct Input {
     failed: bool,
 }
 
-// Reads until the buffer is full, the input ends or a read fails. If one failed, errno says why. io::read_full cannot tell a failure from the end.
+// Reads until the buffer is full, the input ends or a read fails. If one failed, errno says why. io::read_full answers the same for a failure and an end.
 fn read_input(fd: i32, buffer: &mut [u8]) -> Input
     ensures { λ r. ⌜ Counts (r .«length») (now (buffer .exit)) ⌝ }
 {
