@@ -5,6 +5,8 @@
  *   - Orders, replies or a command are not as the header says.
  *
  *   fuzz [ROUNDS [SEED]]
+ *
+ * host/fuzz_guided.c defines GUIDED and includes this file. It then makes the numbers, and starts the calls.
  */
 #define _DEFAULT_SOURCE
 #include <stdio.h>
@@ -19,18 +21,35 @@
 
 static uint64_t seed = 1;
 
-static uint64_t random_number(void)
+/* Marsaglia's. */
+static uint64_t xorshift(void)
 {
-    /* Marsaglia's xorshift. */
     seed ^= seed << 13;
     seed ^= seed >> 7;
     seed ^= seed << 17;
     return seed;
 }
 
+/* random_number: at least so many of its low bytes are random. note: is told what each call returned. */
+#ifdef GUIDED
+static uint64_t random_number(unsigned bytes);
+static void note(const char *name, uint32_t r);
+#else
+static uint64_t random_number(unsigned bytes)
+{
+    (void)bytes;
+    return xorshift();
+}
+
+static void note(const char *name, uint32_t r)
+{
+    (void)name, (void)r;
+}
+#endif
+
 static uint32_t below(uint32_t n)
 {
-    return (uint32_t)(random_number() % n);
+    return (uint32_t)(random_number(n <= 256 ? 1 : 4) % n);
 }
 
 /* Often a number near a limit, else any. */
@@ -38,17 +57,17 @@ static uint32_t number(void)
 {
     static const uint32_t near[] = {0, 1, 2, 3, 4, 5, 47, 48, 255, 256, 511, 512, 2000, 2001, 2047, 2048,
                                     4095, 4096, 65535, 65536, 600000, 168000000, 0x7fffffff, 0xffffffff};
-    return below(2) ? near[below(sizeof near / sizeof *near)] : (uint32_t)random_number();
+    return below(2) ? near[below(sizeof near / sizeof *near)] : (uint32_t)random_number(4);
 }
 
 static uint64_t clock_ms(void)
 {
-    return below(4) ? number() : random_number();
+    return below(4) ? number() : random_number(8);
 }
 
 static size_t lane(void)
 {
-    return below(8) ? below(6) : (size_t)random_number();
+    return below(8) ? below(6) : (size_t)random_number(8);
 }
 
 /* ---- slices ----------------------------------------------------------------------------------------------- */
@@ -99,7 +118,7 @@ static void fill(unsigned char *at, size_t bytes)
         return;
     default:
         for (size_t i = 0; i < bytes; i++)
-            at[i] = (unsigned char)random_number();
+            at[i] = (unsigned char)random_number(1);
     }
 }
 
@@ -180,6 +199,7 @@ static int check(const char *name, uint32_t r, uint32_t may)
     int fits = 1;
     calling = name;
     calls++;
+    note(name, r);
     for (int i = 0; i < lent_count; i++)
         fits = fits && lent[i].fits;
     if (!fits && r != KUZHENGA_WRONG_LENGTH)
@@ -356,7 +376,7 @@ static struct slice *some_file(void)
     s->at = ends[lent_count - 1] - s->bytes;
     memcpy(s->at, file, s->bytes);
     if (below(4) == 0)
-        s->at[below((uint32_t)s->bytes)] = (unsigned char)random_number();
+        s->at[below((uint32_t)s->bytes)] = (unsigned char)random_number(1);
     memcpy(s->before, s->at, s->bytes);
     return s;
 }
@@ -441,6 +461,7 @@ static void bank_looks(void)
           B(12) | B(13));
 }
 
+#ifndef GUIDED
 int main(int argc, char **argv)
 {
     unsigned long rounds = argc > 1 ? strtoul(argv[1], NULL, 10) : 20000;
@@ -459,3 +480,4 @@ int main(int argc, char **argv)
     printf("%lu rounds, %lu calls with slices, %lu refused, no finding\n", rounds, calls, refused_calls);
     return 0;
 }
+#endif
