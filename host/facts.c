@@ -76,7 +76,8 @@ static uint16_t faulted(void)
 
 static void refusals(void)
 {
-    static const uint16_t run[KUZHENGA_RUN_SLOTS] = {KUZHENGA_COMMAND_SPIN_NORMAL, KUZHENGA_COMMAND_SAVE_SETTINGS, 0, 10};
+    static const uint16_t run[KUZHENGA_RUN_SLOTS] = {KUZHENGA_COMMAND_SPIN_NORMAL, KUZHENGA_COMMAND_SAVE_SETTINGS, 0,
+                                                     10};
     static const uint16_t too_large[KUZHENGA_LANES] = {2001, 0, 0, 0}, some[KUZHENGA_LANES] = {1, 0, 0, 0};
     const size_t slots = KUZHENGA_BANK_SLOTS;
     expect("13 before 12", kuzhenga_simulate_reply(samples, 78, 0, 10, 0), KUZHENGA_WRONG_LENGTH);
@@ -199,7 +200,8 @@ static void stored(void)
     begin();
     expect("none are held", kuzhenga_replies_held(taken()), 0);
     for (unsigned n = 0; n < KUZHENGA_LANES; n++)
-        expect("and none is told", taken().slots[KUZHENGA_LANE_REPLY + KUZHENGA_LANE_REPLY_SLOTS * n], KUZHENGA_NO_REPLY);
+        expect("and none is held", taken().slots[KUZHENGA_LANE_REPLY + KUZHENGA_LANE_REPLY_SLOTS * n],
+               KUZHENGA_NO_REPLY);
     cycle(0);
     lanes[KUZHENGA_PRESENT + 1] = 0;
     lanes[KUZHENGA_MASKS + 2] = 0;
@@ -280,7 +282,8 @@ static void runs(void)
 {
     static const uint16_t indexes[] = {2, 255, 256, 257, 65535};
     for (size_t i = 0; i < sizeof indexes / sizeof *indexes; i++) {
-        uint16_t run[KUZHENGA_RUN_SLOTS] = {KUZHENGA_COMMAND_SPIN_NORMAL, KUZHENGA_COMMAND_SAVE_SETTINGS, indexes[i], 10};
+        uint16_t run[KUZHENGA_RUN_SLOTS] = {KUZHENGA_COMMAND_SPIN_NORMAL, KUZHENGA_COMMAND_SAVE_SETTINGS, indexes[i],
+                                            10};
         uint16_t none[KUZHENGA_SEQUENCE_SLOTS], sent[KUZHENGA_SEQUENCE_SLOTS];
         begin();
         cycle(0);

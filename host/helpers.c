@@ -95,6 +95,10 @@ static void texts(void)
             expect("the same text twice", strcmp(kuzhenga_refusal_text(a), kuzhenga_refusal_text(b)) == 0, 0);
     expect("a text of none", strcmp(kuzhenga_refusal_text(23), kuzhenga_refusal_text(UINT32_MAX)) == 0, 1);
     expect("the text of 18", strcmp(kuzhenga_refusal_text(18), "the bank has latched a fault") == 0, 1);
+    expect("the name of kind 0", strcmp(kuzhenga_kind_name(KUZHENGA_ERPM), "erpm") == 0, 1);
+    expect("the name of kind 6", strcmp(kuzhenga_kind_name(KUZHENGA_DEBUG3), "debug3") == 0, 1);
+    expect("the name of kind 8", strcmp(kuzhenga_kind_name(KUZHENGA_EDT), "edt") == 0, 1);
+    expect("the name of no kind", strcmp(kuzhenga_kind_name(9), kuzhenga_kind_name(KUZHENGA_NO_KIND)) == 0, 1);
 }
 
 /* Adds and compares constants of different groups, as hosts do. */

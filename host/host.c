@@ -145,19 +145,14 @@ static uint32_t answer_all(void)
 
 /* ---- the replies -------------------------------------------------------------------------------------------- */
 
-static const char *const kinds[] = {[KUZHENGA_ERPM] = "erpm",     [KUZHENGA_TEMP] = "temp",
-                                    [KUZHENGA_VOLT] = "volt",     [KUZHENGA_AMP] = "amp",
-                                    [KUZHENGA_DEBUG1] = "debug1", [KUZHENGA_DEBUG2] = "debug2",
-                                    [KUZHENGA_DEBUG3] = "debug3", [KUZHENGA_STATE] = "state",
-                                    [KUZHENGA_EDT] = "edt"};
-
 static void print_lane(struct kuzhenga_replies taken, struct kuzhenga_reply_stats counts, unsigned n)
 {
     uint32_t refusal = kuzhenga_lane_refusal(taken, n);
     if (refusal != KUZHENGA_DONE)
         printf("lane %u: refused %u, %s", n, (unsigned)refusal, kuzhenga_refusal_text(refusal));
     else
-        printf("lane %u: %s %lu", n, kinds[kuzhenga_lane_kind(taken, n)], (unsigned long)kuzhenga_lane_number(taken, n));
+        printf("lane %u: %s %lu", n, kuzhenga_kind_name(kuzhenga_lane_kind(taken, n)),
+               (unsigned long)kuzhenga_lane_number(taken, n));
     printf("; valid %lu, invalid %lu\n", (unsigned long)kuzhenga_lane_valid(counts, n),
            (unsigned long)kuzhenga_lane_invalid(counts, n));
 }

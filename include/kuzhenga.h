@@ -106,10 +106,21 @@ static inline const char *kuzhenga_refusal_text(uint32_t number)
 #define KUZHENGA_DEBUG3 6
 #define KUZHENGA_STATE 7  /* a state or an event of the ESC, a byte */
 #define KUZHENGA_EDT 8    /* the ESC acknowledged the command to turn EDT on; the number is 0 */
+/* Turns of the rotor a minute = 100 x number of KUZHENGA_ERPM / (poles / 2). The poles are the magnets of the motor. */
+
+/* The name of a kind, as kuzhenga_list_capture prints it. */
+static inline const char *kuzhenga_kind_name(uint32_t kind)
+{
+    static const char *const names[] = {"erpm", "temp", "volt", "amp", "debug1", "debug2", "debug3", "state", "edt"};
+    return kind < sizeof names / sizeof *names ? names[kind] : "no kind";
+}
 
 /* Only the helpers of this header use these two. They give the number in two slots, and that of lane n. */
 static inline uint32_t kuzhenga_pair_(const uint16_t *at) { return (uint32_t)at[0] | (uint32_t)at[1] << 16; }
-static inline uint32_t kuzhenga_lane_(const uint16_t *at, size_t n) { return n < KUZHENGA_LANES ? kuzhenga_pair_(at + 2 * n) : 0; }
+static inline uint32_t kuzhenga_lane_(const uint16_t *at, size_t n)
+{
+    return n < KUZHENGA_LANES ? kuzhenga_pair_(at + 2 * n) : 0;
+}
 
 /* A reading has three slots: one for the kind, two for the number. A host lends a call the slots, and gives a helper
  * the whole struct. Start each reading with NO_READING. If the call then refuses, the kind is NO_KIND and the number is
@@ -120,7 +131,10 @@ static inline uint32_t kuzhenga_lane_(const uint16_t *at, size_t n) { return n <
 #define KUZHENGA_NO_NUMBER 4294967295u
 struct kuzhenga_reading { uint16_t slots[KUZHENGA_READING_SLOTS]; };
 static inline uint32_t kuzhenga_reading_kind(struct kuzhenga_reading reading) { return reading.slots[0]; }
-static inline uint32_t kuzhenga_reading_number(struct kuzhenga_reading reading) { return kuzhenga_pair_(reading.slots + 1); }
+static inline uint32_t kuzhenga_reading_number(struct kuzhenga_reading reading)
+{
+    return kuzhenga_pair_(reading.slots + 1);
+}
 
 /* ---- replies ---------------------------------------------------------------------------------------------------- */
 /* Returns the reply word that an ESC sends for a value: 21 transition bits, the start edge first. Only the value's low
@@ -174,10 +188,10 @@ uint32_t kuzhenga_value_period(uint32_t value, uint16_t *period, size_t period_l
 KUZHENGA_CHECK
 uint32_t kuzhenga_period_value(uint32_t period_us, uint16_t *value, size_t value_len /* 1 */);
 
-/* Writes the capture that a value's reply leaves: 13 WRONG_LENGTH (fewer samples than lead + 69 REPLY_SAMPLES), 12 NO_MASK.
- * `lead` is the number of high samples before the reply. Each bit takes three samples, and the rest is high. The call
- * writes every sample. A high sample is the whole mask, and a low one is 0. The value is one of kuzhenga_period_value,
- * not a period. Only the value's low twelve bits and the mask's low sixteen bits count. */
+/* Writes the capture that a value's reply leaves: 13 WRONG_LENGTH (fewer samples than lead + 69 REPLY_SAMPLES),
+ * 12 NO_MASK. `lead` is the number of high samples before the reply. Each bit takes three samples, and the rest is
+ * high. The call writes every sample. A high sample is the whole mask, and a low one is 0. The value is one of
+ * kuzhenga_period_value, not a period. Only the value's low twelve bits and the mask's low sixteen bits count. */
 #define KUZHENGA_REPLY_SAMPLES 69
 KUZHENGA_CHECK
 uint32_t kuzhenga_simulate_reply(uint16_t *samples, size_t samples_len, uint32_t value, size_t lead, uint32_t pin_mask);
@@ -188,7 +202,7 @@ uint32_t kuzhenga_simulate_reply(uint16_t *samples, size_t samples_len, uint32_t
  * nothing more. Each of these numbers is at most 65535. A number is written in groups of seven bits, one group a byte,
  * lowest first, in the shortest form. Every group of a number except its last has the top bit set. */
 #define KUZHENGA_FILE_SAMPLES 4096
-#define KUZHENGA_FILE_BYTES 12294 /* the longest file */
+#define KUZHENGA_FILE_BYTES 12294 /* the longest file; read one byte more, so that a longer file is refused */
 
 /* Reads a file: 13 WRONG_LENGTH, 17 NOT_A_CAPTURE. The file's samples fill the first slots of `samples`. The other
  * slots stay as they were. Three slots take the count of samples, the mask and EDT. */
@@ -538,15 +552,27 @@ uint32_t kuzhenga_bank_reply_stats(const uint16_t *bank, size_t bank_len, uint16
 /* The counts. If n is above 3, lane n's count is 0. */
 static inline uint32_t kuzhenga_frames_started(struct kuzhenga_stats s) { return kuzhenga_pair_(s.slots); }
 static inline uint32_t kuzhenga_frames_completed(struct kuzhenga_stats s) { return kuzhenga_pair_(s.slots + 2); }
-static inline uint32_t kuzhenga_lane_completions(struct kuzhenga_stats s, size_t n) { return kuzhenga_lane_(s.slots + 4, n); }
+static inline uint32_t kuzhenga_lane_completions(struct kuzhenga_stats s, size_t n)
+{
+    return kuzhenga_lane_(s.slots + 4, n);
+}
 static inline uint32_t kuzhenga_busy_skips(struct kuzhenga_stats s) { return kuzhenga_pair_(s.slots + 12); }
 static inline uint32_t kuzhenga_lease_expiries(struct kuzhenga_stats s) { return kuzhenga_pair_(s.slots + 14); }
 static inline uint32_t kuzhenga_frame_timeouts(struct kuzhenga_stats s) { return kuzhenga_pair_(s.slots + 16); }
 static inline uint32_t kuzhenga_dma_faults(struct kuzhenga_stats s) { return kuzhenga_pair_(s.slots + 18); }
 static inline uint32_t kuzhenga_spurious_interrupts(struct kuzhenga_stats s) { return kuzhenga_pair_(s.slots + 20); }
-static inline uint32_t kuzhenga_lane_valid(struct kuzhenga_reply_stats s, size_t n) { return kuzhenga_lane_(s.slots, n); }
-static inline uint32_t kuzhenga_lane_invalid(struct kuzhenga_reply_stats s, size_t n) { return kuzhenga_lane_(s.slots + 8, n); }
-static inline uint32_t kuzhenga_lane_invalid_in_a_row(struct kuzhenga_reply_stats s, size_t n) { return kuzhenga_lane_(s.slots + 16, n); }
+static inline uint32_t kuzhenga_lane_valid(struct kuzhenga_reply_stats s, size_t n)
+{
+    return kuzhenga_lane_(s.slots, n);
+}
+static inline uint32_t kuzhenga_lane_invalid(struct kuzhenga_reply_stats s, size_t n)
+{
+    return kuzhenga_lane_(s.slots + 8, n);
+}
+static inline uint32_t kuzhenga_lane_invalid_in_a_row(struct kuzhenga_reply_stats s, size_t n)
+{
+    return kuzhenga_lane_(s.slots + 16, n);
+}
 
 /* Copies the sequence that a lane is sending, from the buffer that holds it: 13 WRONG_LENGTH, 12 NO_SUCH_MOTOR. */
 KUZHENGA_CHECK
@@ -559,7 +585,7 @@ uint32_t kuzhenga_bank_sending(const uint16_t *bank, size_t bank_len, const uint
  * not renewed. */
 uint32_t kuzhenga_fallback_release_due(uint32_t now_ms, uint32_t last_release_ms);
 
-/* New in 0.3.0: kuzhenga_value_period.
+/* New in 0.3.0: kuzhenga_value_period and kuzhenga_kind_name.
  *
  * Changes in 0.2.0. If no replies are held, each lane has 7 NO_REPLY, and no longer zeros. An order to exchange
  * names its buffer. This header no longer says where the fields of a state lie. A state's stored replies have the kinds

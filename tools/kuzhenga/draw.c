@@ -1,8 +1,10 @@
 /* kuzhenga draw: a capture as a drawing. */
+#define _POSIX_C_SOURCE 200809L
 #include "draw.h"
 
 #include <errno.h>
 #include <string.h>
+#include <sys/stat.h>
 
 #include "commands.h"
 #include "explain.h"
@@ -20,15 +22,26 @@ static const char help[] =
     "Exit status: 0 the capture was read, 1 it was refused, 2 bad usage or a file that cannot be read or\n"
     "written, 3 the bits that were counted are not the library's: a mistake in this program.\n";
 
+enum { NAME_COLUMNS = 56 }; /* of a caption of 100 columns */
+
 size_t first_panel(const struct drawing *drawing)
 {
     size_t start = drawing->layout->start;
     return drawing->layout->started && start > PANEL_LEAD ? start - PANEL_LEAD : 0;
 }
 
+/* Whether the line stays at one level. */
+static bool is_flat(const struct capture *capture)
+{
+    for (size_t i = 1; i < capture->count; i++)
+        if (is_high(capture, i) != is_high(capture, 0))
+            return false;
+    return true;
+}
+
 bool next_panel(const struct drawing *drawing, size_t *first)
 {
-    if (drawing->layout->started || *first + PANEL_SAMPLES >= drawing->capture->count)
+    if (drawing->layout->started || *first + PANEL_SAMPLES >= drawing->capture->count || is_flat(drawing->capture))
         return false;
     *first += PANEL_SAMPLES;
     return true;
@@ -40,15 +53,40 @@ size_t panel_samples(const struct drawing *drawing, size_t first)
     return left < PANEL_SAMPLES ? left : PANEL_SAMPLES;
 }
 
+/* The last part of a name, for a line of text: control bytes are shown as ?, and a long name is cut. */
+static void short_name(const char *name, char *text)
+{
+    const char *slash = strrchr(name, '/');
+    const char *part = slash != NULL && slash[1] != '\0' ? slash + 1 : name;
+    size_t length = strlen(part);
+    bool cut = length > NAME_COLUMNS;
+    length = cut ? NAME_COLUMNS : length;
+    /* A character may take several bytes. It is not cut in two. */
+    while (cut && length > 0 && ((unsigned char)part[length] & 0xc0) == 0x80)
+        length--;
+    for (size_t i = 0; i < length; i++)
+        text[i] = (unsigned char)part[i] < ' ' || part[i] == 0x7f ? '?' : part[i];
+    strcpy(text + length, cut ? "..." : "");
+}
+
 void caption(const struct drawing *drawing, char *text)
 {
     const struct capture *capture = drawing->capture;
-    const char *name = strrchr(capture->name, '/');
+    char name[NAME_COLUMNS + 4];
+    short_name(capture->name, name);
     if (drawing->reply->refusal == KUZHENGA_NOT_A_CAPTURE)
-        snprintf(text, CAPTION_BYTES, "%.160s: no capture file", name ? name + 1 : capture->name);
+        snprintf(text, CAPTION_BYTES, "%s: no capture file", name);
     else
-        snprintf(text, CAPTION_BYTES, "%.160s: %zu samples, mask %u, EDT %s", name ? name + 1 : capture->name,
-                 capture->count, (unsigned)capture->mask, capture->edt ? "on" : "off");
+        snprintf(text, CAPTION_BYTES, "%s: %zu samples, mask %u, EDT %s", name, capture->count, (unsigned)capture->mask,
+                 capture->edt ? "on" : "off");
+}
+
+/* Whether two names lead to one file, so that a picture does not overwrite its capture. */
+static bool same_file(const char *one, const char *other)
+{
+    struct stat first, second;
+    return stat(one, &first) == 0 && stat(other, &second) == 0 && first.st_dev == second.st_dev &&
+           first.st_ino == second.st_ino && S_ISREG(first.st_mode);
 }
 
 static int write_svg(const struct drawing *drawing, const char *name)
@@ -80,11 +118,13 @@ static int draw(const char *file, const char *svg)
         fprintf(stderr, "kuzhenga: the bits that were counted are not the library's word\n");
         return STATUS_DIFFERS;
     }
-    explain(&capture, &reply, explanation);
+    explain(&capture, &layout, &reply, explanation);
     struct drawing drawing = {&capture, &reply, &layout, explanation};
     int status = STATUS_READ;
     if (svg == NULL)
         draw_text(&drawing, stdout);
+    else if (reply.refusal == KUZHENGA_NOT_A_CAPTURE) /* no picture, so that swapped names overwrite no capture */
+        fprintf(stderr, "kuzhenga: %s: %s\n", file, reply.line);
     else
         status = write_svg(&drawing, svg);
     return status != STATUS_READ ? status : reply.refusal == KUZHENGA_DONE ? STATUS_READ : STATUS_REFUSED;
@@ -110,5 +150,9 @@ int run_draw(int count, char **words)
         else
             file = words[i];
     }
-    return file == NULL ? bad_usage("draw", "a file is missing", "") : draw(file, svg);
+    if (file == NULL)
+        return bad_usage("draw", "a file is missing", "");
+    if (svg != NULL && same_file(file, svg))
+        return bad_usage("draw", "--svg", "would overwrite the capture");
+    return draw(file, svg);
 }

@@ -17,7 +17,8 @@ struct drawing {
 /* How many samples a panel shows, and how many of them stand before the start edge at most. */
 enum { PANEL_SAMPLES = 90, PANEL_LEAD = 12 };
 
-/* Panels: one from shortly before the start edge, or as many as it takes to show every sample. */
+/* Panels: one from shortly before the start edge, or one of a line that stays at one level, or as many as it takes to
+ * show every sample. */
 size_t first_panel(const struct drawing *drawing);
 bool next_panel(const struct drawing *drawing, size_t *first);
 

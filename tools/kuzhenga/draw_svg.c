@@ -50,7 +50,8 @@ static void escaped(FILE *out, const char *text, size_t length)
 static void put_text(FILE *out, int x, int y, const char *anchor, int size, const char *colour, const char *text,
                      size_t length)
 {
-    fprintf(out, "<text x=\"%d\" y=\"%d\" text-anchor=\"%s\" font-size=\"%d\" fill=\"%s\">", x, y, anchor, size, colour);
+    fprintf(out, "<text x=\"%d\" y=\"%d\" text-anchor=\"%s\" font-size=\"%d\" fill=\"%s\">", x, y, anchor, size,
+            colour);
     escaped(out, text, length);
     fputs("</text>\n", out);
 }
@@ -77,7 +78,8 @@ static void put_levels(FILE *out, const struct drawing *drawing, size_t first, i
         snprintf(number, sizeof number, "%zu", i);
         put_text(out, x_of(i, first), top + SCALE_Y, "start", 11, faint, number, strlen(number));
     }
-    put_label(out, top + (HIGH_Y + LOW_Y) / 2 + 4, "level");
+    put_label(out, top + HIGH_Y + 4, "high");
+    put_label(out, top + LOW_Y + 4, "low");
     fprintf(out, "<polyline fill=\"none\" stroke=\"%s\" stroke-width=\"2\" points=\"", ink);
     for (size_t i = first; i < first + samples; i++) {
         int y = top + (is_high(capture, i) ? HIGH_Y : LOW_Y);
@@ -86,17 +88,26 @@ static void put_levels(FILE *out, const struct drawing *drawing, size_t first, i
     fputs("\"/>\n", out);
 }
 
+/* The first bit of the last run. */
+static unsigned last_run(const struct layout *layout)
+{
+    unsigned i = layout->count;
+    while (i > 0 && !layout->bits[--i].set)
+        ;
+    return i;
+}
+
 static void put_bits(FILE *out, const struct layout *layout, size_t first, int top)
 {
+    unsigned extra = layout->overlong ? last_run(layout) : layout->count;
     put_label(out, top + BITS_Y, "bits");
     for (unsigned i = 0; i < layout->count; i++) {
         int from = x_of(layout->bits[i].from, first);
         int to = x_of(layout->bits[i].to, first);
         fprintf(out, "<line x1=\"%d\" y1=\"%d\" x2=\"%d\" y2=\"%d\" stroke=\"#d0d0d0\"/>\n", from, top + HIGH_Y - 6,
                 from, top + BITS_Y + 4);
-        bool extra = layout->overlong && i + 1 == layout->count;
-        put_middle(out, (from + to) / 2, top + BITS_Y, 14, extra ? wrong : ink, layout->bits[i].set ? "1" : "0");
-        if (extra)
+        put_middle(out, (from + to) / 2, top + BITS_Y, 14, i >= extra ? wrong : ink, layout->bits[i].set ? "1" : "0");
+        if (i == extra)
             put_middle(out, (from + to) / 2, top + BITS_Y + LINE_HEIGHT, 12, wrong, "too many bits");
     }
 }
@@ -165,8 +176,8 @@ void draw_svg(const struct drawing *drawing, FILE *out)
     char text[CAPTION_BYTES];
     int height = height_of(drawing);
     caption(drawing, text);
-    fprintf(out, "<svg xmlns=\"http://www.w3.org/2000/svg\" width=\"%d\" height=\"%d\" viewBox=\"0 0 %d %d\"", WIDTH, height,
-            WIDTH, height);
+    fprintf(out, "<svg xmlns=\"http://www.w3.org/2000/svg\" width=\"%d\" height=\"%d\" viewBox=\"0 0 %d %d\"", WIDTH,
+            height, WIDTH, height);
     fputs(" font-family=\"monospace\">\n<title>", out);
     escaped(out, text, strlen(text));
     fputs(": ", out);

@@ -8,7 +8,7 @@
 enum { LABEL_COLUMNS = 9, TEXT_COLUMNS = 100, CELL_BYTES = 4 };
 enum row { SCALE, HIGH, LOW, BITS, SYMBOL, NIBBLE, DAMAGE, ROWS };
 
-static const char *const labels[ROWS] = {"sample", "level", "", "bits", "symbols", "nibbles", "damage"};
+static const char *const labels[ROWS] = {"sample", "high", "low", "bits", "symbols", "nibbles", "damage"};
 
 /* Each cell is one character, which may take three bytes. */
 struct page {
@@ -81,7 +81,7 @@ static void put_symbol(struct page *page, const struct drawing *drawing, unsigne
     put_middle(page, NIBBLE, from, to, text);
     const char *damage = damage_of(drawing->reply, n, text);
     if (damage != NULL)
-        put_middle(page, DAMAGE, from, to, damage);
+        put_middle(page, DAMAGE, from, to, strlen(damage) < to - from ? damage : "^");
 }
 
 static void print_page(const struct page *page, FILE *out)

@@ -7,7 +7,6 @@
 
 #include "symbols.h"
 
-static const char *const kinds[] = {"erpm", "temp", "volt", "amp", "debug1", "debug2", "debug3", "state", "edt"};
 static const char *const places[] = {"first", "second", "third", "fourth"};
 
 __attribute__((format(printf, 2, 3))) static void say(char *text, const char *format, ...)
@@ -23,34 +22,51 @@ __attribute__((format(printf, 2, 3))) static void say(char *text, const char *fo
 
 /* ---- refusals ----------------------------------------------------------------------------------------------- */
 
-static bool all_at(const struct capture *capture, bool level)
+/* The first sample from a place on that is at another level, or the count if there is none. */
+static size_t run_end(const struct capture *capture, size_t from)
 {
-    for (size_t i = 0; i < capture->count; i++)
-        if (is_high(capture, i) != level)
-            return false;
-    return true;
+    size_t end = from + 1;
+    while (end < capture->count && is_high(capture, end) == is_high(capture, from))
+        end++;
+    return end;
 }
 
-static void explain_no_reply(const struct capture *capture, char *text)
+static void explain_edges(const struct capture *capture, const struct layout *layout, char *text)
+{
+    size_t low = is_high(capture, 0) ? run_end(capture, 0) : 0;
+    if (!layout->started)
+        say(text, "The line falls at sample %zu, and fewer than 57 samples are left: the reply comes too late.", low);
+    else if (run_end(capture, layout->start) == capture->count)
+        say(text, "The line stays low from sample %zu on: look at the wire and the pull-up.", layout->start);
+    else
+        say(text, "From the start edge at sample %zu on there are %u bits up to the last edge, and 18 are needed. %s",
+            low, layout->count, "Look at the sample rate (three samples a bit), and for a spike before the reply.");
+}
+
+static void explain_no_reply(const struct capture *capture, const struct layout *layout, char *text)
 {
     if (capture->count == 0)
         say(text, "The file has no samples.");
     else if (capture->mask == 0)
         say(text, "The mask is 0, so every sample is low: write the mask of the motor's pin into the file.");
-    else if (all_at(capture, true))
-        say(text, "The line stays high: the ESC sent nothing, or the wire is off.");
-    else if (all_at(capture, false))
-        say(text, "The line stays low: look at the wire, the pull-up and the mask.");
+    else if (run_end(capture, 0) < capture->count)
+        explain_edges(capture, layout, text);
+    else if (is_high(capture, 0))
+        say(text, "The line stays high: the ESC sent nothing, the wire is off, or the mask is another pin's.");
     else
-        say(text, "There is no start edge with 57 samples from it on, or fewer than 18 bits follow it.");
+        say(text, "The line stays low: look at the wire, the pull-up and the mask.");
 }
 
 static void explain_symbols(const struct reply *reply, char *text)
 {
-    for (unsigned n = 0; n < SYMBOLS; n++)
-        if (nibble_at(reply->word, n) == NO_NIBBLE)
-            say(text, "The five bits %02x of the %s symbol stand for no nibble.", symbol_at(reply->word, n),
-                places[n]);
+    for (unsigned n = 0; n < SYMBOLS; n++) {
+        unsigned symbol = symbol_at(reply->word, n);
+        char bits[6] = "";
+        for (unsigned i = 0; i < 5; i++)
+            bits[i] = symbol >> (4 - i) & 1u ? '1' : '0';
+        if (nibble_of(symbol) == NO_NIBBLE)
+            say(text, "The five bits %s of the %s symbol stand for no nibble.", bits, places[n]);
+    }
 }
 
 static void explain_checksum(const struct reply *reply, char *text)
@@ -67,19 +83,41 @@ static void explain_other_edt(const struct capture *capture, const struct reply 
         return;
     uint32_t kind = kuzhenga_reading_kind(other);
     if (kind != KUZHENGA_ERPM)
-        say(text, "The file says that EDT is off. If EDT is on in the ESC, this is %s %u.", kinds[kind],
+        say(text, "The file says that EDT is off. If EDT is on in the ESC, this is %s %u.", kuzhenga_kind_name(kind),
             (unsigned)kuzhenga_reading_number(other));
 }
 
-static void explain_refusal(const struct capture *capture, const struct reply *reply, char *text)
+/* ---- edges -------------------------------------------------------------------------------------------------- */
+
+/* An edge between two symbols that is a bit early or late gives another reply in few cases. The library tells which. */
+static void explain_moved_edge(const struct capture *capture, const struct reply *reply, char *text)
+{
+    for (unsigned boundary = 15; boundary >= 5; boundary -= 5) {
+        uint32_t pair = UINT32_C(3) << (boundary - 1);
+        uint32_t held = reply->word & pair;
+        uint16_t value[1];
+        struct kuzhenga_reading other = KUZHENGA_NO_READING;
+        if (held == 0 || held == pair || kuzhenga_decode_gcr(reply->word ^ pair, value, 1) != KUZHENGA_DONE)
+            continue;
+        if (kuzhenga_reply_from_value(value[0], capture->edt, other.slots, KUZHENGA_READING_SLOTS) != KUZHENGA_DONE)
+            continue;
+        say(text, "Beware: if one edge between two symbols was a bit early or late, the ESC sent %03x (%s %u).",
+            value[0], kuzhenga_kind_name(kuzhenga_reading_kind(other)), (unsigned)kuzhenga_reading_number(other));
+        say(text, "Compare with the replies before and after.");
+    }
+}
+
+static void explain_refusal(const struct capture *capture, const struct layout *layout, const struct reply *reply,
+                            char *text)
 {
     say(text, "Refused with %u: %s.", (unsigned)reply->refusal, kuzhenga_refusal_text(reply->refusal));
     switch (reply->refusal) {
     case KUZHENGA_NO_REPLY:
-        explain_no_reply(capture, text);
+        explain_no_reply(capture, layout, text);
         break;
     case KUZHENGA_OVERLONG:
-        say(text, "The runs after the start edge are more than 21 bits at three samples a bit: look at the sample rate.");
+        say(text, "From the start edge at sample %zu on there are more than 21 bits.", layout->start);
+        say(text, "Look at the sample rate (three samples a bit), and for a spike before the reply.");
         break;
     case KUZHENGA_INVALID_SYMBOL:
         explain_symbols(reply, text);
@@ -88,11 +126,14 @@ static void explain_refusal(const struct capture *capture, const struct reply *r
         explain_checksum(reply, text);
         break;
     case KUZHENGA_ZERO_PERIOD:
-        say(text, "The value %03x stands for a period of 0, which no ESC sends.", (unsigned)reply->value);
+        say(text, "The value %03x stands for a period of 0.", (unsigned)reply->value);
         explain_other_edt(capture, reply, text);
+        explain_moved_edge(capture, reply, text);
         break;
     default:
-        say(text, "The file has %s%zu bytes.", capture->bytes > KUZHENGA_FILE_BYTES ? "at least " : "", capture->bytes);
+        say(text, "It has %s%zu byte%s.", capture->bytes > KUZHENGA_FILE_BYTES ? "at least " : "", capture->bytes,
+            capture->bytes == 1 ? "" : "s");
+        say(text, "A number in it is wrong, samples are missing, or bytes follow the last sample.");
         break;
     }
 }
@@ -100,11 +141,13 @@ static void explain_refusal(const struct capture *capture, const struct reply *r
 /* ---- readings ----------------------------------------------------------------------------------------------- */
 
 /* An ESC sends the smallest exponent that nine bits allow. Another value is a sign of a wrong bit. */
-static void explain_exponent(const struct reply *reply, unsigned us, char *text)
+static bool is_usual(const struct reply *reply, unsigned us, char *text)
 {
     uint16_t value[1];
-    if (kuzhenga_period_value(us, value, 1) == KUZHENGA_DONE && value[0] != reply->value)
-        say(text, "Beware: an ESC that uses the smallest exponent sends %03x for this period.", value[0]);
+    if (kuzhenga_period_value(us, value, 1) != KUZHENGA_DONE || value[0] == reply->value)
+        return true;
+    say(text, "Beware: an ESC usually sends %03x for this period, so a bit may be wrong.", value[0]);
+    return false;
 }
 
 static void explain_speed(const struct reply *reply, char *text)
@@ -115,16 +158,14 @@ static void explain_speed(const struct reply *reply, char *text)
     unsigned us = (unsigned)kuzhenga_period_us(period);
     unsigned step = (unsigned)kuzhenga_period_step(period);
     if (us == 0) {
-        say(text, "The rotor is at rest.");
+        say(text, "The rotor is at rest, or an electrical turn takes 65408 us or more.");
         return;
     }
-    say(text, "One electrical turn takes %u us.", us);
-    if (step == 1)
-        say(text, "The nine bits of the value hold this period to the microsecond.");
-    else
-        say(text, "The nine bits of the value hold it in steps of %u us: the true period is %u to %u us.", step, us,
-            us + step - 1);
-    explain_exponent(reply, us, text);
+    say(text, "The value stands for %u us an electrical turn. It is sent in nine bits, here in steps of %u us.", us,
+        step);
+    if (is_usual(reply, us, text) && step > 1)
+        say(text, "If the ESC cuts off what does not fit, the true period is at least %u and less than %u us.", us,
+            us + step);
 }
 
 static void explain_reading(const struct reply *reply, char *text)
@@ -147,7 +188,7 @@ static void explain_reading(const struct reply *reply, char *text)
         say(text, "The ESC reports the state or event byte %u.", number);
         break;
     case KUZHENGA_EDT:
-        say(text, "The ESC acknowledges that extended telemetry (EDT) is on.");
+        say(text, "The ESC acknowledges the command to turn on extended telemetry (EDT).");
         break;
     default:
         say(text, "The ESC sends the debug byte %u.", number);
@@ -155,34 +196,42 @@ static void explain_reading(const struct reply *reply, char *text)
     }
 }
 
-/* ---- edges -------------------------------------------------------------------------------------------------- */
+/* ---- the capture -------------------------------------------------------------------------------------------- */
 
-/* An edge between two symbols that is a bit early or late gives another reply in few cases. The library tells which. */
-static void explain_moved_edge(const struct capture *capture, const struct reply *reply, char *text)
+/* No whole bit lasts a single sample. */
+static void explain_spike(const struct capture *capture, const struct layout *layout, char *text)
 {
-    for (unsigned boundary = 15; boundary >= 5; boundary -= 5) {
-        uint32_t pair = UINT32_C(3) << (boundary - 1);
-        uint32_t held = reply->word & pair;
-        uint16_t value[1];
-        struct kuzhenga_reading other = KUZHENGA_NO_READING;
-        if (held == 0 || held == pair || kuzhenga_decode_gcr(reply->word ^ pair, value, 1) != KUZHENGA_DONE)
-            continue;
-        if (kuzhenga_reply_from_value(value[0], capture->edt, other.slots, KUZHENGA_READING_SLOTS) != KUZHENGA_DONE)
-            continue;
-        say(text, "Beware: if one edge was a bit early or late, the ESC sent %03x (%s %u).", value[0],
-            kinds[kuzhenga_reading_kind(other)], (unsigned)kuzhenga_reading_number(other));
-        say(text, "Compare with the replies before and after.");
+    size_t end = layout->start + KUZHENGA_REPLY_SAMPLES;
+    for (size_t from = layout->start; from < capture->count && from < end; from = run_end(capture, from)) {
+        if (run_end(capture, from) == from + 1 && from + 1 < capture->count) {
+            say(text, "Beware: the line keeps its level for a single sample at sample %zu. That is less than a bit.",
+                from);
+            say(text, "If it is noise, the reading may be false.");
+            return;
+        }
     }
 }
 
-void explain(const struct capture *capture, const struct reply *reply, char *text)
+static void explain_end(const struct capture *capture, const struct layout *layout, char *text)
+{
+    size_t left = capture->count - layout->start;
+    if (left < REPLY_BITS * SAMPLES_PER_BIT)
+        say(text, "The capture ends %zu samples from the start edge on, and a whole reply takes %d.", left,
+            REPLY_BITS * SAMPLES_PER_BIT);
+}
+
+void explain(const struct capture *capture, const struct layout *layout, const struct reply *reply, char *text)
 {
     text[0] = '\0';
     if (reply->refusal != KUZHENGA_DONE) {
-        explain_refusal(capture, reply, text);
-        return;
+        explain_refusal(capture, layout, reply, text);
+    } else {
+        explain_reading(reply, text);
+        explain_other_edt(capture, reply, text);
+        explain_moved_edge(capture, reply, text);
     }
-    explain_reading(reply, text);
-    explain_other_edt(capture, reply, text);
-    explain_moved_edge(capture, reply, text);
+    if (reply->has_word) {
+        explain_spike(capture, layout, text);
+        explain_end(capture, layout, text);
+    }
 }

@@ -5,10 +5,11 @@
 #include <stddef.h>
 
 #include "capture.h"
+#include "layout.h"
 
 enum { EXPLANATION_BYTES = 1024 };
 
 /* Writes the sentences, one after the other, into a text of EXPLANATION_BYTES. */
-void explain(const struct capture *capture, const struct reply *reply, char *text);
+void explain(const struct capture *capture, const struct layout *layout, const struct reply *reply, char *text);
 
 #endif

@@ -64,7 +64,7 @@ int main(int count, char **words)
 {
     int status = run(count, words);
     if (fflush(stdout) != 0 || ferror(stdout)) {
-        perror("kuzhenga: standard output");
+        fprintf(stderr, "kuzhenga: standard output cannot be written\n");
         return STATUS_USAGE;
     }
     return status;

@@ -6,6 +6,7 @@
 #include "capture.h"
 #include "commands.h"
 #include "explain.h"
+#include "layout.h"
 
 static const char help[] =
     "usage: kuzhenga list [--poles N] [--explain] FILE...\n"
@@ -29,6 +30,8 @@ static const char help[] =
 struct options {
     unsigned long poles; /* 0 if they are not given */
     bool explain;
+    bool help;
+    bool standard_input;
     int files;
 };
 
@@ -42,14 +45,28 @@ static bool read_poles(const char *word, unsigned long *poles)
     return *after == '\0' && *poles >= 2 && *poles <= 1000 && *poles % 2 == 0;
 }
 
+/* Standard input can be read once. */
+static bool add_file(char **words, char *name, struct options *options)
+{
+    bool standard = strcmp(name, "-") == 0;
+    if (standard && options->standard_input)
+        return false;
+    options->standard_input = options->standard_input || standard;
+    words[options->files++] = name;
+    return true;
+}
+
 static int read_options(int count, char **words, struct options *options)
 {
     bool only_files = false;
-    for (int i = 0; i < count; i++) {
-        if (only_files || words[i][0] != '-' || strcmp(words[i], "-") == 0)
-            words[options->files++] = words[i];
-        else if (strcmp(words[i], "--") == 0)
+    for (int i = 0; i < count && !options->help; i++) {
+        if (only_files || words[i][0] != '-' || strcmp(words[i], "-") == 0) {
+            if (!add_file(words, words[i], options))
+                return bad_usage("list", "-", "is given twice");
+        } else if (strcmp(words[i], "--") == 0)
             only_files = true;
+        else if (asks_for_help(words[i]))
+            options->help = true;
         else if (strcmp(words[i], "--explain") == 0)
             options->explain = true;
         else if (strcmp(words[i], "--poles") != 0)
@@ -57,7 +74,7 @@ static int read_options(int count, char **words, struct options *options)
         else if (++i >= count || !read_poles(words[i], &options->poles))
             return bad_usage("list", "--poles", "takes an even number from 2 to 1000");
     }
-    if (options->files == 0)
+    if (options->files == 0 && !options->help)
         return bad_usage("list", "a file is missing", "");
     return STATUS_READ;
 }
@@ -79,7 +96,9 @@ static int list_file(const char *name, const struct options *options)
     printf("\n");
     if (options->explain) {
         char text[EXPLANATION_BYTES];
-        explain(&capture, &reply, text);
+        struct layout layout;
+        lay_out(&capture, &layout);
+        explain(&capture, &layout, &reply, text);
         printf("  %s\n", text);
     }
     return reply.refusal == KUZHENGA_DONE ? STATUS_READ : STATUS_REFUSED;
@@ -88,15 +107,13 @@ static int list_file(const char *name, const struct options *options)
 int run_list(int count, char **words)
 {
     struct options options = {0};
-    for (int i = 0; i < count; i++) {
-        if (asks_for_help(words[i])) {
-            fputs(help, stdout);
-            return STATUS_READ;
-        }
-    }
     int status = read_options(count, words, &options);
     if (status != STATUS_READ)
         return status;
+    if (options.help) {
+        fputs(help, stdout);
+        return STATUS_READ;
+    }
     for (int i = 0; i < options.files; i++) {
         int listed = list_file(words[i], &options);
         status = listed > status ? listed : status;

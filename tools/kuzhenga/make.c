@@ -14,11 +14,11 @@ static const char help[] =
     "\n"
     "Writes a capture file to standard output.\n"
     "\n"
-    "  --value HEX     the reply of a value, up to fff (fff is a rotor at rest)\n"
+    "  --value HEX     the reply of a value, up to fff (fff is a rotor at rest or very slow)\n"
     "  --period US     the reply for a period of 1 to 65535 microseconds, as an ESC sends it\n"
     "  --none          no reply: all samples are high\n"
     "  --lead N        how many high samples come before the reply (10)\n"
-    "  --mask N        the sample of a high line (1)\n"
+    "  --mask N        the mask of the pin, 1 << pin, which is the sample of a high line (1)\n"
     "  --samples N     how many samples there are (160), at most 4096; a reply needs 69 after the lead\n"
     "  --edt           mark the capture as one with extended telemetry (EDT)\n"
     "  --jitter SEED   move each edge by at most one sample, so that the capture still renders the reply\n"
@@ -28,7 +28,7 @@ static const char help[] =
     "Example: kuzhenga make --period 1000 >speed.capture && kuzhenga list speed.capture\n"
     "prints   19bfb7 3f4 erpm 600\n"
     "\n"
-    "Exit status: 0 written, 1 not written, 2 bad usage.\n";
+    "Exit status: 0 written, 2 bad usage, or standard output cannot be written.\n";
 
 /* Says that the library refused a call, with its number. */
 static bool refused(const char *call, uint32_t number)
@@ -43,8 +43,7 @@ static bool refused(const char *call, uint32_t number)
 /* The value that is asked for. */
 static bool find_value(const struct make_options *options, uint32_t *value)
 {
-    if (!options->given[PERIOD])
-{
+    if (!options->given[PERIOD]) {
         *value = options->number[VALUE];
         return true;
     }
@@ -60,8 +59,7 @@ static bool find_value(const struct make_options *options, uint32_t *value)
 /* Changes the word of a reply as asked. */
 static bool change_word(const struct make_options *options, uint32_t *word)
 {
-    if (options->given[DAMAGE])
-{
+    if (options->given[DAMAGE]) {
         *word ^= UINT32_C(1) << options->number[DAMAGE];
         return true;
     }
@@ -100,8 +98,7 @@ static bool fill_reply(const struct make_options *options, uint16_t *samples)
 
 static bool fill_samples(const struct make_options *options, uint16_t *samples)
 {
-    if (options->none)
-{
+    if (options->none) {
         fill_high(samples, options->number[SAMPLES], (uint16_t)options->number[MASK]);
         return true;
     }
@@ -121,13 +118,10 @@ static int write_file(const struct make_options *options, const uint16_t *sample
     if (refused("write a capture",
                 kuzhenga_write_capture(samples, options->number[SAMPLES], options->number[MASK],
                                        options->extended_telemetry, file, KUZHENGA_FILE_BYTES, length, 1))) {
-        return 1;
+        return STATUS_REFUSED;
     }
-    if (fwrite(file, 1, length[0], stdout) != length[0] || fflush(stdout) != 0) {
-        perror("kuzhenga: standard output");
-        return 1;
-    }
-    return 0;
+    fwrite(file, 1, length[0], stdout); /* main sees whether that fails */
+    return STATUS_READ;
 }
 
 int run_make(int count, char **words)

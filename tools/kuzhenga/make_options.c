@@ -19,7 +19,7 @@ static const struct kind kinds[NUMBERED] = {
     [VALUE] = {"--value", 16, 0, 0xfff, "a hexadecimal number up to fff"},
     [PERIOD] = {"--period", 10, 1, 65535, "microseconds, 1 to 65535"},
     [LEAD] = {"--lead", 10, 0, 4096, "a number of samples up to 4096"},
-    [MASK] = {"--mask", 10, 1, 65535, "a number from 1 to 65535"},
+    [MASK] = {"--mask", 10, 1, 65535, "a number from 1 to 65535, or 0x1 to 0xffff"},
     [SAMPLES] = {"--samples", 10, 0, 4096, "a number of samples up to 4096"},
     [JITTER] = {"--jitter", 10, 0, UINT32_MAX, "a number of 32 bits"},
     [DAMAGE] = {"--damage", 10, 0, 19, "a bit from 0 to 19"},
@@ -38,7 +38,8 @@ static bool read_number(const char *text, int base, uint32_t most, uint32_t *num
         return false;
     }
     errno = 0;
-    unsigned long read = strtoul(text, after, base);
+    bool hexadecimal = text[0] == '0' && (text[1] == 'x' || text[1] == 'X');
+    unsigned long read = strtoul(text, after, hexadecimal ? 16 : base);
     if (*after == text || errno != 0 || read > most) {
         return false;
     }

@@ -29,7 +29,7 @@ static int step(uint32_t *state)
     return (int)((*state >> 16) % 3) - 1;
 }
 
-/* How far the next edge is moved, where the one before it was moved by `last`. */
+/* How far the next edge is moved. The edge before it was moved by `last`. */
 static int next_move(int last, uint32_t *state)
 {
     int move = last + step(state);

@@ -12,8 +12,8 @@ void fill_high(uint16_t *samples, size_t count, uint16_t mask);
  * line is high after them. */
 void fill_word(uint16_t *samples, size_t count, uint32_t word, size_t lead, uint16_t mask);
 
-/* Moves each edge by at most one sample. Two neighbours are moved by amounts that differ by at most one, so that a
- * run of k bits keeps 3k - 1 to 3k + 1 samples: the capture renders the same word. */
+/* Moves each edge by at most one sample. The moves of two neighbours differ by at most one. So a run of k bits keeps
+ * 3k - 1 to 3k + 1 samples, and the capture renders the same word. */
 void jitter(uint16_t *samples, size_t count, uint32_t seed);
 
 #endif

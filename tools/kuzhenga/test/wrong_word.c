@@ -1,4 +1,4 @@
-/* Wraps the library's call that gives a capture's word, so that its last bit is wrong. `kuzhenga draw` must then stop. */
+/* Wraps the library's call that gives a capture's word. Its last bit is then wrong, and `kuzhenga draw` must stop. */
 #include <stddef.h>
 #include <stdint.h>
 
