@@ -79,7 +79,7 @@ $(shared): $(made_with)
 # The Python module is for every version of Python 3 from 3.8 on: $(PREFIX)/share/kuzhenga/python goes into PYTHONPATH.
 to := $(DESTDIR)$(PREFIX)
 captures := $(wildcard captures/*.capture captures/*.line)
-documents := README.md $(wildcard LICENSE) NOTICE
+documents := LICENSE NOTICE
 installed := bin/kuzhenga include/kuzhenga.h lib/libkuzhenga.a lib/libkuzhenga.so lib/pkgconfig/kuzhenga.pc \
     share/kuzhenga/python/kuzhenga.py $(captures:%=share/kuzhenga/%) $(documents:%=share/doc/kuzhenga/%)
 # The folders that hold nothing but these files, the inner ones first.

@@ -9,7 +9,7 @@ RARE_VALUES = (0xFFF, 0x000, 0x200, 0x800, 0xE00, 0x001)
 
 
 def jittered(samples, random_source):
-    """The samples with each edge moved by at most one sample, as tools/make_capture does it."""
+    """The samples with each edge moved by at most one sample, as `kuzhenga make` does it."""
     moved = list(samples)
     shift = 0
     for place in range(1, len(samples)):

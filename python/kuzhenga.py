@@ -310,7 +310,7 @@ def read_file(path):
 
 
 def line(data):
-    """The bench's line of the bytes of a file, without its line feed. It tells a refusal too: `refused 7`."""
+    """The bench's line of the bytes of a file, without its line feed. If the capture is refused, it is `refused` and the number."""
     text, written = (ctypes.c_uint8 * LINE_BYTES)(), _slots(1)
     _do("list_capture", _bytes(data), text, written)
     return bytes(text[:written[0]]).decode("ascii").rstrip("\n")
