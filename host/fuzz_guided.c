@@ -66,7 +66,7 @@ UNSEEN static uint64_t random_number(unsigned bytes)
     return drawn;
 }
 
-/* The first eight bytes alone begin xorshift: if a later one changes, what xorshift makes stays as it was. */
+/* Only the first eight bytes begin xorshift. If a later one changes, what xorshift makes stays. */
 static void take_numbers_from(const uint8_t *data, size_t size)
 {
     source = data;

@@ -1,4 +1,4 @@
--- `dshot_reply::reply_transitions` meets its contract: the start is looked for where it may be, and what is read from there on is assembled.
+-- `dshot_reply::reply_transitions` meets its contract: the start is searched among the samples that may be one. What is read from there on is assembled.
 -- Assumes nothing.
 use mathlib.Core.Path.{_≡_, sym, _∙_, ap}
 use mathlib.Core.Bool.{Bool}

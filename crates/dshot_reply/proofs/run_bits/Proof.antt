@@ -1,4 +1,4 @@
--- `dshot_reply::run_bits` meets its contract: the quotient, or one where that is less.
+-- `dshot_reply::run_bits` meets its contract: the quotient, or one if that is less.
 -- Assumes nothing.
 use native.Mathlib.Omega.{arith}
 use Rattle.dshot_reply.proofs.run_bits.Statement.{statement}

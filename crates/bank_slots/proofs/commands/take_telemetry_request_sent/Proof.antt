@@ -1,4 +1,4 @@
--- `bank_slots::commands::take_telemetry_request_sent` meets its contract: the sent request taken: refused, or told in two slots and cleared.
+-- `bank_slots::commands::take_telemetry_request_sent` meets its contract: it is refused, or gives the sent request in two slots and clears it.
 -- Assumes nothing.
 use Rattle.bank_slots_spec.proofs.CommandCalls.{other-long, sent-taken, sent-told}
 use Rattle.bank_slots_spec.proofs.CalledLaws.{state-short, called-unfit, answer-unfit, out-kept}

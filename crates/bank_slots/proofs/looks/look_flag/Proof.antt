@@ -1,4 +1,4 @@
--- `bank_slots::looks::look_flag` meets its contract: the flag in a slot: refused, or told in a slot.
+-- `bank_slots::looks::look_flag` meets its contract: it is refused, or gives the flag in a slot.
 -- Assumes nothing.
 use mathlib.Core.Path.{_∙_, ap, refl}
 use mathlib.Core.List.{List, [], _∷_}

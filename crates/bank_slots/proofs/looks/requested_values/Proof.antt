@@ -1,4 +1,4 @@
--- `bank_slots::looks::requested_values` meets its contract: the four values: refused, or told in four slots.
+-- `bank_slots::looks::requested_values` meets its contract: it is refused, or gives the four values in four slots.
 -- Assumes nothing.
 use native.Mathlib.Omega.{arith}
 use lib.ListN.{length-set}

@@ -1,4 +1,4 @@
--- `bank_slots::looks::take_replies` meets its contract: the replies taken: refused, or each lane's told and none held after.
+-- `bank_slots::looks::take_replies` meets its contract: it is refused, or gives each lane's reply, and none are held after it.
 -- Assumes nothing.
 use mathlib.Core.Path.{_∙_, ap}
 use Prim.Native.Nat.{ℕ}

@@ -1,4 +1,4 @@
--- `bank_slots::replies::read_replies` meets its contract: the windows read, where they wait.
+-- `bank_slots::replies::read_replies` meets its contract: if windows wait, they are read.
 -- Assumes nothing.
 use mathlib.Core.Path.{_∙_, sym}
 use borrow.Author.Tests.{not-true, not-false}

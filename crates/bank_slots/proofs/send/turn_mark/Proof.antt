@@ -1,4 +1,4 @@
--- `bank_slots::send::turn_mark` meets its contract: a mark that is turned where a test holds.
+-- `bank_slots::send::turn_mark` meets its contract: if a test holds, a mark is turned.
 -- Assumes nothing.
 use mathlib.Core.Path.{_∙_, refl, ap}
 use mathlib.Core.Bool.{Bool, not}

@@ -1,4 +1,4 @@
--- `bank_slots::steps::bump_if` meets its contract: a count that is raised where a test holds.
+-- `bank_slots::steps::bump_if` meets its contract: if a test holds, a count is raised.
 -- Assumes nothing.
 use mathlib.Core.Path.{refl}
 use Rattle.dshot_bank_spec.proofs.LaneLaws.{on, off}

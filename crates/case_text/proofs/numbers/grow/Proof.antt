@@ -1,4 +1,4 @@
--- `case_text::numbers::grow` meets its contract: a number is too large just where 64 bits do not hold ten times it and the digit.
+-- `case_text::numbers::grow` meets its contract: a number is too large exactly if 64 bits do not hold ten times it plus the digit.
 -- Assumes nothing.
 use native.Mathlib.Omega.{arith}
 use Prim.Native.Nat.{_+_, _*_}

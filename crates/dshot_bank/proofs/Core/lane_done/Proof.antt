@@ -1,4 +1,4 @@
--- `dshot_bank::Core::lane_done` meets its contract: the lane is complete, and counted where it was sent and not sampled.
+-- `dshot_bank::Core::lane_done` meets its contract: the lane is complete. If it was sent and not sampled, it is counted.
 -- Assumes nothing.
 use Rattle.dshot_bank_spec.specs.Interrupt.{laneDone}
 use borrow.Author.Needs.{needs}

@@ -1,4 +1,4 @@
--- `dshot_bank::DshotBank::sending` meets its contract: nothing where the port refuses, else the lane's part of the buffer that its mark names.
+-- `dshot_bank::DshotBank::sending` meets its contract: if the port refuses, nothing, else the lane's part of the buffer that its mark names.
 -- Assumes nothing.
 use mathlib.Core.Path.{_∙_, refl, sym, ap}
 use native.Mathlib.Omega.{arith}

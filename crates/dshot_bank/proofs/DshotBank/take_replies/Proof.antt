@@ -1,4 +1,4 @@
--- `dshot_bank::DshotBank::take_replies` meets its contract: what was decoded of each lane where replies are held, and none are held after.
+-- `dshot_bank::DshotBank::take_replies` meets its contract: if replies are held, what was decoded of each lane. None are held after it.
 -- Assumes nothing.
 use mathlib.Core.Path.{_≡_}
 use mathlib.Core.Bool.{Bool, true, false}

@@ -1,4 +1,4 @@
--- `dshot_bank::replies::read_replies` meets its contract: the last window decoded where one waits, else all as it was.
+-- `dshot_bank::replies::read_replies` meets its contract: if a window waits, it is decoded, else all stays.
 -- Assumes nothing.
 use mathlib.Core.Path.{refl}
 use borrow.Author.Needs.{needs}

@@ -1,4 +1,4 @@
--- `dshot_bank::replies::read_window` meets its contract: what the reader makes of the window where a capture is present, else no reply.
+-- `dshot_bank::replies::read_window` meets its contract: if a capture is present, what the reader makes of the window, else no reply.
 -- Assumes nothing.
 use mathlib.Core.Path.{refl}
 use borrow.Author.Needs.{needs}
