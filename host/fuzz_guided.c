@@ -23,7 +23,8 @@ enum {
     KINDS = VALUES + 32,        /* the kind of a reading */
     SERVICES = KINDS + 16,      /* the event of a service and the count of its orders */
     INTERRUPTS = SERVICES + 64, /* those of an interrupt */
-    COUNTERS = INTERRUPTS + 64
+    REPLIES = INTERRUPTS + 64,  /* the kind or the refusal of a reply that is taken */
+    COUNTERS = REPLIES + 32
 };
 
 __attribute__((section("__libfuzzer_extra_counters"))) static uint8_t counters[COUNTERS];

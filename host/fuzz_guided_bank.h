@@ -183,6 +183,7 @@ static void take_replies(void)
     for (size_t n = 0; model.held && n < LANES; n++) {
         const struct lane_model *wanted = &model.lanes[n];
         agree("another refusal than the model's", kuzhenga_lane_refusal(taken, n), wanted->refusal);
+        reached(REPLIES + (wanted->refusal ? 16 + wanted->refusal % 16 : kuzhenga_reading_kind(wanted->reading) % 16));
         if (wanted->refusal != KUZHENGA_DONE)
             continue;
         agree("another kind than the model's", kuzhenga_lane_kind(taken, n), kuzhenga_reading_kind(wanted->reading));
@@ -192,10 +193,10 @@ static void take_replies(void)
     model.held = 0;
 }
 
-/* A lane's window: a simulated reply, at times with samples changed, or one level. */
-static void change_window(void)
+/* A simulated reply, at times with samples changed, or one level. */
+static void change_window(size_t n)
 {
-    uint16_t *window = kept_windows + KUZHENGA_WINDOW_SAMPLES * below(LANES);
+    uint16_t *window = kept_windows + KUZHENGA_WINDOW_SAMPLES * n;
     if (below(8) == 0)
         memset(window, below(2) ? 0xff : 0, KUZHENGA_WINDOW_SAMPLES * sizeof *window);
     else
@@ -254,20 +255,56 @@ static void interrupt(struct interrupt i)
     reached(INTERRUPTS + 16u * wanted.event + wanted.orders);
 }
 
+/* An interrupt that is not due latches a fault, which ends what a list can reach. So most of those are left out. */
+static void interrupt_if_due(struct interrupt i)
+{
+    int due = model.busy && i.lane < LANES && !(model.done >> i.lane & 1);
+    if (due || below(8) == 0)
+        interrupt(i);
+}
+
 /* Every lane's stream completes, and mostly the lanes turn. */
 static void complete_all(void)
 {
     uint32_t turned = below(8), turned_back = below(8);
     for (size_t n = 0; n < LANES; n++)
-        interrupt((struct interrupt){n, 1, 0, turned, turned_back});
+        interrupt_if_due((struct interrupt){n, 1, 0, turned, turned_back});
+}
+
+static void clocks(void)
+{
+    uint64_t started_ms = clock_ms(), later_ms = clock_ms();
+    uint32_t lease_ms = number(), released_ms = number(), r;
+    r = kuzhenga_command_lease_expired(started_ms, lease_ms, later_ms);
+    note(calling = "command_lease_expired", r);
+    agree("another answer than the clocks give", r, later_ms - started_ms > lease_ms);
+    r = kuzhenga_fallback_release_due((uint32_t)later_ms, released_ms);
+    note(calling = "fallback_release_due", r);
+    agree("another answer than the clocks give", r, (uint32_t)later_ms - released_ms >= 2);
 }
 
 /* ---- the list -------------------------------------------------------------------------------------------------- */
 
+/* A set and its windows. */
+static void whole_set(void)
+{
+    serve(1);
+    complete_all();
+    if (model.receiving)
+        complete_all();
+}
+
+/* A fault ends only with a new bank. */
+static void begin_again(void)
+{
+    if (model.faulted || below(8) == 0)
+        new_bank();
+}
+
 static void one_call(void)
 {
-    switch (below(16)) {
-    case 0: new_bank(); break;
+    switch (below(18)) {
+    case 0: begin_again(); break;
     case 1: enable(); break;
     case 2: stop(); break;
     case 3: throttle(); break;
@@ -276,11 +313,13 @@ static void one_call(void)
     case 6: cancel(); break;
     case 7: take_request_sent(); break;
     case 8: take_replies(); break;
-    case 9: change_window(); break;
+    case 9: change_window(below(LANES)); break;
     case 10: complete_all(); break;
-    case 11: interrupt((struct interrupt){some_lane(), 1, 0, 1, 1}); break;
+    case 11: interrupt_if_due((struct interrupt){some_lane(), 1, 0, 1, 1}); break;
     case 12: interrupt((struct interrupt){some_lane(), below(4), below(4) == 0, below(4), below(4)}); break;
     case 13: serve(0); break;
+    case 14: clocks(); break;
+    case 15: whole_set(); break;
     default: serve(1);
     }
 }
@@ -288,7 +327,8 @@ static void one_call(void)
 static void bank_list(const uint8_t *data, size_t size)
 {
     take_numbers_from(data, size);
-    memset(kept_windows, 0, sizeof kept_windows);
+    for (size_t n = 0; n < LANES; n++)
+        change_window(n);
     now_ms = seed;
     new_bank();
     if (below(4))

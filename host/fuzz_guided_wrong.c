@@ -80,3 +80,13 @@ WRAP(bank_on_dma_interrupt, (uint16_t *bank, size_t slots, size_t motor, uint32_
     turned = turned || is_wrong("turned");
     return __real_kuzhenga_bank_on_dma_interrupt(bank, slots, motor, complete, error, turned, back, answer, room);
 }
+
+/* speed: the number of lane 3's speed is wrong. */
+WRAP(bank_take_replies, (uint16_t *bank, size_t slots, uint16_t *replies, size_t room))
+{
+    uint16_t *lane = replies + KUZHENGA_LANE_REPLY + 3 * KUZHENGA_LANE_REPLY_SLOTS;
+    uint32_t r = __real_kuzhenga_bank_take_replies(bank, slots, replies, room);
+    if (is_wrong("speed") && r == KUZHENGA_DONE && replies[0] && lane[0] == 0 && lane[1] == KUZHENGA_ERPM)
+        lane[2] ^= 1;
+    return r;
+}
