@@ -1,4 +1,5 @@
--- `dshot_bank_cases::looks::of_view` is safe and ends: each place that it writes is in the list, each slot that it reads in the view, and the places left fall.
+-- `dshot_bank_cases::looks::of_view` is safe and ends: each place that it writes is in the list, each slot that it reads in the view, and the places
+-- left fall.
 -- Assumes nothing.
 use mathlib.Core.Path.{_≡_}
 use Prim.Native.Nat.{_≤_, _-_}

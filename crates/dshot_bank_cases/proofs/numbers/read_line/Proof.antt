@@ -1,4 +1,5 @@
--- `dshot_bank_cases::numbers::read_line` is safe, ends, and counts no more numbers than `out` has room for: each turn writes one number, and the room left falls.
+-- `dshot_bank_cases::numbers::read_line` is safe, ends, and counts no more numbers than `out` has room for: each turn writes one number, and the
+-- room left falls.
 -- Assumes nothing.
 use mathlib.Core.Path.{_≡_}
 use Prim.Native.Nat.{_≤_, _-_}

@@ -1,4 +1,5 @@
--- `dshot_reply::simulate::fill` makes every slot of the buffer the value. The loop's invariant: the slots passed hold the value, and the others are as they were.
+-- `dshot_reply::simulate::fill` makes every slot of the buffer the value. The loop's invariant: the slots passed hold the value, and the others are
+-- as they were.
 -- Assumes nothing.
 use mathlib.Core.Path.{_≡_, refl, _∙_}
 use mathlib.Core.List.{_++_, append-nil}

@@ -1,4 +1,5 @@
--- `dshot_reply::simulate::period_value` gives the value of a period. The loop's invariant: scaling what is left, from the exponent on, gives what scaling the period gives.
+-- `dshot_reply::simulate::period_value` gives the value of a period. The loop's invariant: scaling what is left, from the exponent on, gives what
+-- scaling the period gives.
 -- Assumes nothing.
 use mathlib.Core.Path.{_≡_, refl, sym, ap, _∙_}
 use Prim.Native.Nat.{_-_, _^_, _≤_, _<_}

@@ -1,4 +1,5 @@
--- `kuzhenga::reply::kuzhenga_decode_sampled_reply` answers as `sampledReply`, with the reading in its three slots; lent another number of slots, it answers 13.
+-- `kuzhenga::reply::kuzhenga_decode_sampled_reply` answers as `sampledReply`, with the reading in its three slots; lent another number of slots, it
+-- answers 13.
 -- Assumes nothing.
 use borrow.Author.Needs.{needs}
 use Rattle.kuzhenga.specs.Slots.{readingSlots}
