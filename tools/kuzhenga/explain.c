@@ -35,7 +35,8 @@ static void explain_edges(const struct capture *capture, const struct layout *la
 {
     size_t low = is_high(capture, 0) ? run_end(capture, 0) : 0;
     if (!layout->started)
-        say(text, "The line falls at sample %zu, and fewer than 57 samples are left: the reply comes too late.", low);
+        say(text, "The line falls at sample %zu, and fewer than 57 samples are left. %s", low,
+            "The reply comes too late, or the capture is too short.");
     else if (run_end(capture, layout->start) == capture->count)
         say(text, "The line stays low from sample %zu on: look at the wire and the pull-up.", layout->start);
     else
