@@ -200,14 +200,14 @@ static void explain_reading(const struct reply *reply, char *text)
 /* ---- the capture -------------------------------------------------------------------------------------------- */
 
 /* No whole bit lasts a single sample. */
-static void explain_spike(const struct capture *capture, const struct layout *layout, char *text)
+static void explain_spike(const struct capture *capture, const struct layout *layout, bool is_read, char *text)
 {
     size_t end = layout->start + KUZHENGA_REPLY_SAMPLES;
     for (size_t from = layout->start; from < capture->count && from < end; from = run_end(capture, from)) {
         if (run_end(capture, from) == from + 1 && from + 1 < capture->count) {
             say(text, "Beware: the line keeps its level for a single sample at sample %zu. That is less than a bit.",
                 from);
-            say(text, "If it is noise, the reading may be false.");
+            say(text, is_read ? "If it is noise, the reading may be false." : "It may be noise.");
             return;
         }
     }
@@ -232,7 +232,7 @@ void explain(const struct capture *capture, const struct layout *layout, const s
         explain_moved_edge(capture, reply, text);
     }
     if (reply->has_word) {
-        explain_spike(capture, layout, text);
+        explain_spike(capture, layout, reply->refusal == KUZHENGA_DONE, text);
         explain_end(capture, layout, text);
     }
 }
