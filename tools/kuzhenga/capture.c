@@ -87,3 +87,11 @@ bool is_high(const struct capture *capture, size_t at)
 {
     return (capture->samples[at] & capture->mask) != 0;
 }
+
+size_t run_end(const struct capture *capture, size_t from)
+{
+    size_t end = from + 1;
+    while (end < capture->count && is_high(capture, end) == is_high(capture, from))
+        end++;
+    return end;
+}

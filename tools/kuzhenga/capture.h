@@ -37,4 +37,7 @@ void read_reply(struct capture *capture, struct reply *reply);
 /* Whether a sample is high under the capture's mask. */
 bool is_high(const struct capture *capture, size_t at);
 
+/* The first sample after `from` that is at another level, or the count if there is none. */
+size_t run_end(const struct capture *capture, size_t from);
+
 #endif

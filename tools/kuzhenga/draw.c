@@ -30,18 +30,11 @@ size_t first_panel(const struct drawing *drawing)
     return drawing->layout->started && start > PANEL_LEAD ? start - PANEL_LEAD : 0;
 }
 
-/* Whether the line stays at one level. */
-static bool is_flat(const struct capture *capture)
-{
-    for (size_t i = 1; i < capture->count; i++)
-        if (is_high(capture, i) != is_high(capture, 0))
-            return false;
-    return true;
-}
-
 bool next_panel(const struct drawing *drawing, size_t *first)
 {
-    if (drawing->layout->started || *first + PANEL_SAMPLES >= drawing->capture->count || is_flat(drawing->capture))
+    const struct capture *capture = drawing->capture;
+    bool is_flat = run_end(capture, 0) == capture->count;
+    if (drawing->layout->started || *first + PANEL_SAMPLES >= capture->count || is_flat)
         return false;
     *first += PANEL_SAMPLES;
     return true;

@@ -152,10 +152,9 @@ static int height_of(const struct drawing *drawing)
     do
         height += drawing->layout->started ? REPLY_HEIGHT : LEVEL_HEIGHT;
     while (next_panel(drawing, &first));
-    for (const char *left = drawing->explanation; *left != '\0'; height += LINE_HEIGHT) {
-        size_t length = line_length(left, FOOT_COLUMNS);
-        left += length + (left[length] == ' ');
-    }
+    size_t length;
+    for (const char *left = drawing->explanation; *left != '\0'; height += LINE_HEIGHT)
+        left = next_line(left, FOOT_COLUMNS, &length);
     return height;
 }
 
@@ -164,10 +163,11 @@ static void put_foot(FILE *out, const struct drawing *drawing, int y)
     const char *line = drawing->reply->line;
     put_text(out, LEFT, y, "start", 15, drawing->reply->refusal == KUZHENGA_DONE ? ink : wrong, line, strlen(line));
     for (const char *left = drawing->explanation; *left != '\0';) {
-        size_t length = line_length(left, FOOT_COLUMNS);
+        size_t length;
+        const char *rest = next_line(left, FOOT_COLUMNS, &length);
         y += LINE_HEIGHT;
         put_text(out, LEFT, y, "start", 13, faint, left, length);
-        left += length + (left[length] == ' ');
+        left = rest;
     }
 }
 

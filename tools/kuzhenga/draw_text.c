@@ -125,10 +125,10 @@ void draw_text(const struct drawing *drawing, FILE *out)
         draw_panel(drawing, first, out);
     while (next_panel(drawing, &first));
     fprintf(out, "%s\n", drawing->reply->line);
-    const char *left = drawing->explanation;
-    while (*left != '\0') {
-        size_t length = line_length(left, TEXT_COLUMNS);
+    for (const char *left = drawing->explanation; *left != '\0';) {
+        size_t length;
+        const char *rest = next_line(left, TEXT_COLUMNS, &length);
         fprintf(out, "%.*s\n", (int)length, left);
-        left += length + (left[length] == ' ');
+        left = rest;
     }
 }

@@ -22,15 +22,6 @@ __attribute__((format(printf, 2, 3))) static void say(char *text, const char *fo
 
 /* ---- refusals ----------------------------------------------------------------------------------------------- */
 
-/* The first sample from a place on that is at another level, or the count if there is none. */
-static size_t run_end(const struct capture *capture, size_t from)
-{
-    size_t end = from + 1;
-    while (end < capture->count && is_high(capture, end) == is_high(capture, from))
-        end++;
-    return end;
-}
-
 static void explain_edges(const struct capture *capture, const struct layout *layout, char *text)
 {
     size_t low = is_high(capture, 0) ? run_end(capture, 0) : 0;

@@ -45,12 +45,11 @@ void lay_out(const struct capture *capture, struct layout *layout)
         return;
     size_t run = layout->start;
     size_t end = run + MOST_SAMPLES < capture->count ? run + MOST_SAMPLES : capture->count;
-    for (size_t i = run + 1; i < end && !layout->overlong; i++) {
-        if (is_high(capture, i) == is_high(capture, i - 1))
-            continue;
-        layout->overlong = layout->count + run_bits(i - run) > REPLY_BITS;
-        add_run(layout, run, i - run, run_bits(i - run));
-        run = i;
+    for (size_t next = run_end(capture, run); next < end && !layout->overlong; next = run_end(capture, run)) {
+        unsigned bits = run_bits(next - run);
+        layout->overlong = layout->count + bits > REPLY_BITS;
+        add_run(layout, run, next - run, bits);
+        run = next;
     }
     /* The last run may have no edge after it. Then it has the bits that are left. */
     if (layout->count >= LEAST_BITS && layout->count < REPLY_BITS) {
@@ -82,12 +81,13 @@ const char *damage_of(const struct reply *reply, unsigned n, char *text)
     return NULL;
 }
 
-size_t line_length(const char *text, size_t width)
+const char *next_line(const char *text, size_t width, size_t *length)
 {
-    size_t length = strlen(text);
-    if (length <= width)
-        return length;
-    for (length = width; length > 0 && text[length] != ' ';)
-        length--;
-    return length == 0 ? width : length;
+    *length = strlen(text);
+    if (*length > width) {
+        for (*length = width; *length > 0 && text[*length] != ' ';)
+            --*length;
+        *length = *length == 0 ? width : *length;
+    }
+    return text + *length + (text[*length] == ' ');
 }

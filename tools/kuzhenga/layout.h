@@ -34,7 +34,7 @@ bool agrees(const struct layout *layout, const struct reply *reply);
 enum { DAMAGE_BYTES = 16 };
 const char *damage_of(const struct reply *reply, unsigned n, char *text);
 
-/* The length of the first line of a text that is broken at spaces, at most `width`. */
-size_t line_length(const char *text, size_t width);
+/* Breaks a text at spaces. `length` is that of its first line, at most `width`. Returns the text after that line. */
+const char *next_line(const char *text, size_t width, size_t *length);
 
 #endif
