@@ -46,14 +46,14 @@ use dshot_bank::replies::LaneFlags;
 use dshot_bank::send::encode_spares;
 
 // The next special-command frame.
-#[derive(Drop)]
+#[derive(Clone, Copy)]
 pub(crate) enum FrameCommand {
     None,
     Command(usize, u16),
 }
 
 // What is sent to each lane, and whether it is an ordinary frame. An ordinary frame carries the pending telemetry request.
-#[derive(Drop)]
+#[derive(Clone, Copy)]
 pub(crate) struct FrameSet {
     pub values: MotorValues,
     pub telemetry_lane: TelemetryLane,

@@ -16,7 +16,7 @@ use Rattle.dshot_bank_spec.specs.State.{Core, LaneReply, Bank}
 use Rattle.dshot_bank_spec.specs.Commands.{no_replies}
 use Rattle.dshot_bank_spec.specs.Calls.{Answer, done, motor_sent, serviced, interrupted, replied, flag, counts, values, reply_counts, slots, ReplyStats}
 use Rattle.dshot_bank_spec.specs.Calls as Call
-use Rattle.dshot_bank_spec.proofs.Hidden.{hidden-replies}
+use Rattle.dshot_bank_spec.proofs.HiddenLaws.{hidden-replies}
 use Rattle.dshot_bank_spec.specs.Hide.{hide_answer, hide_taken, hide_counts, hide_bank}
 use Rattle.bank_slots_spec.specs.Memory.{at, write}
 use Rattle.bank_slots_spec.specs.Places.{REPLIES}

@@ -10,7 +10,7 @@ use native.Mathlib.Omega.{arith}
 use Rattle.dshot_reply_spec.specs.Answer as Reply
 use Rattle.dshot_reply_spec.specs.Value.{Reading}
 use Rattle.dshot_bank_spec.specs.Calls.{Answer, done, refused, motor_sent, serviced, interrupted, replied, flag, counts, values, reply_counts, slots, ReplyStats}
-use Rattle.dshot_bank_spec.proofs.Hidden.{tells_replies}
+use Rattle.dshot_bank_spec.proofs.HiddenLaws.{tells_replies}
 use Rattle.bank_slots_spec.specs.Places.{REPLIES}
 use Rattle.bank_slots_spec.specs.SlotClaims.{Tells, TellsSlot}
 

@@ -16,7 +16,7 @@ pub const FILE_SAMPLES: usize = 4096;
 pub const FILE_BYTES: usize = 12294;
 
 // What stands before the samples of a file, and the place of the first sample.
-#[derive(Drop)]
+#[derive(Clone, Copy)]
 enum HeadRead {
     Head {
         count: usize,
@@ -112,7 +112,7 @@ fn fill_samples(file: &[u8], from: usize, count: usize, samples: &mut [u16])
 }
 
 // What a file holds besides its samples, or why it was not read.
-#[derive(Drop)]
+#[derive(Clone, Copy)]
 pub enum CaptureRead {
     Capture {
         count: usize,
@@ -169,7 +169,7 @@ fn put_samples(file: &mut [u8], from: usize, samples: &[u16]) -> usize
 }
 
 // The length of the file that was written. If a slice has the wrong length, the refusal.
-#[derive(Drop)]
+#[derive(Clone, Copy)]
 pub enum CaptureWritten {
     Length(usize),
     WrongLength,

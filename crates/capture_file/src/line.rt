@@ -12,7 +12,7 @@ use dshot_reply::{Decoded, DshotReply, ReplyRead, Transitions, kind};
 pub const LINE_ROOM: usize = 32;
 
 // The bytes of a line, zeros after them, and the number of its bytes.
-#[derive(Drop)]
+#[derive(Clone, Copy)]
 pub struct Line {
     pub bytes: [u8; LINE_ROOM],
     pub length: usize,

@@ -16,7 +16,7 @@ fn byte_at(file: &[u8], at: usize) -> u16
 }
 
 // A number and the place after it, or that no number stands there.
-#[derive(Drop)]
+#[derive(Clone, Copy)]
 pub(crate) enum NumberRead {
     Number { value: u16, next: usize },
     NotANumber,

@@ -10,7 +10,7 @@ use crate::widths::{wide16, wide32};
 use dshot_reply::{DshotReply, DshotReplyError, ReplyRead, kind};
 
 // The number of a refusal, and zeros. If the call is done: 0, the kind of a reading (0 if the call gives none), and the value.
-#[derive(Drop)]
+#[derive(Clone, Copy)]
 pub struct Answer {
     pub refusal: u64,
     pub kind: u64,

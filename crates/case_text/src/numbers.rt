@@ -40,7 +40,7 @@ fn digit(byte: u8) -> u64
 }
 
 // A number with one more digit, or that it is too large.
-#[derive(Drop)]
+#[derive(Clone, Copy)]
 enum Grown {
     To(u64),
     TooLarge,
@@ -60,7 +60,7 @@ fn grow(value: u64, digit: u64) -> Grown
 }
 
 // A number and the place after it, or that no number can be read.
-#[derive(Drop)]
+#[derive(Clone, Copy)]
 pub enum Read {
     Number(u64, usize),
     Broken,

@@ -43,7 +43,7 @@ pub const DSHOT_MAX_THROTTLE: u16 = 2047;
 pub const DSHOT600_BITRATE_HZ: u32 = 600_000;
 
 // Why no packet is made. `specs/Answers.antt` gives each error of this crate its number in document 01.
-#[derive(Drop)]
+#[derive(Clone, Copy)]
 pub enum DshotFrameError {
     ValueOutOfRange,
 }
@@ -60,18 +60,18 @@ impl DshotFrameError {
 }
 
 // The word of a frame. It has a type of its own, so that it is never taken for a value.
-#[derive(Drop)]
+#[derive(Clone, Copy)]
 pub struct DshotPacket(pub u16);
 
 // A packet, or why there is none.
-#[derive(Drop)]
+#[derive(Clone, Copy)]
 pub enum PacketMade {
     Packet(DshotPacket),
     Refused(DshotFrameError),
 }
 
 // How the checksum is sent.
-#[derive(Drop)]
+#[derive(Clone, Copy)]
 pub enum ChecksumKind {
     Plain,
     Inverted,
@@ -121,7 +121,7 @@ impl DshotPacket {
 }
 
 // The lane that is asked for telemetry, if any.
-#[derive(Drop)]
+#[derive(Clone, Copy)]
 pub enum TelemetryLane {
     None,
     Lane(usize),
@@ -176,7 +176,7 @@ pub fn four_motor_bidirectional_packets(
     packets_of_kind(ChecksumKind::Inverted, values, telemetry_lane)
 }
 
-#[derive(Drop)]
+#[derive(Clone, Copy)]
 pub enum DshotTimingError {
     ZeroTimerClock,
     ZeroBitrate,
@@ -198,7 +198,7 @@ impl DshotTimingError {
     }
 }
 
-#[derive(Drop)]
+#[derive(Clone, Copy)]
 pub struct DshotTiming {
     pub arr: u16,
     pub zero_high: u16,
@@ -209,7 +209,7 @@ pub struct DshotTiming {
 }
 
 // A timing, or why there is none.
-#[derive(Drop)]
+#[derive(Clone, Copy)]
 pub enum TimingMade {
     Timing(DshotTiming),
     Refused(DshotTimingError),
@@ -270,7 +270,7 @@ fn div_round(numerator: u32, denominator: u32) -> u32
 }
 
 // Whether a buffer was filled.
-#[derive(Drop)]
+#[derive(Clone, Copy)]
 pub enum Encoded {
     Written,
     WrongLength,
@@ -331,7 +331,7 @@ pub fn encode_packet(packet: DshotPacket, max_duty: u16, output: &mut [u16]) -> 
 }
 
 // The first duty of a sequence. The others are written to the buffer.
-#[derive(Drop)]
+#[derive(Clone, Copy)]
 pub enum Sequenced {
     First(u16),
     WrongLength,
@@ -405,7 +405,7 @@ pub const DSHOT_COMMAND_REPEATS: u8 = 10;
 
 // A short run of special-command frames for one motor, e.g. "set direction, then save". Each call to `next_value` yields the value for the next frame
 // until the run is spent. Any fields make a run. A count of 0 means 256; no run of `spin_direction` reaches 0.
-#[derive(Drop)]
+#[derive(Clone, Copy)]
 pub struct DshotCommandSequence {
     pub commands: [u16; 2],
     pub index: u8,
@@ -413,14 +413,14 @@ pub struct DshotCommandSequence {
 }
 
 // The command for a frame, or none.
-#[derive(Drop)]
+#[derive(Clone, Copy)]
 pub enum CommandValue {
     None,
     Value(u16),
 }
 
 // The command for the next frame, and the run after it.
-#[derive(Drop)]
+#[derive(Clone, Copy)]
 pub struct NextValue {
     pub value: CommandValue,
     pub sequence: DshotCommandSequence,

@@ -10,7 +10,7 @@ use crate::{COMPARE_DMA_SLOTS, ChecksumKind, DSHOT_BITS, DshotPacket, DshotTimin
 use dshot_reply::refusals::{WRONG_DUTY, WRONG_LENGTH, WRONG_PACKET_CHECKSUM};
 
 // Why a packet or a sequence cannot be read.
-#[derive(Drop)]
+#[derive(Clone, Copy)]
 pub enum FrameReadError {
     // The sequence does not have sixteen slots.
     WrongLength,
@@ -34,7 +34,7 @@ impl FrameReadError {
 }
 
 // What a packet or a sequence says, or why it cannot be read.
-#[derive(Drop)]
+#[derive(Clone, Copy)]
 pub enum FrameRead {
     Frame {
         value: u16,
@@ -69,7 +69,7 @@ pub fn read_packet(packet: DshotPacket) -> FrameRead
 }
 
 // The bit that a duty stands for.
-#[derive(Drop)]
+#[derive(Clone, Copy)]
 enum DutyBit {
     Bit(u16),
     Neither,
@@ -101,7 +101,7 @@ fn duty_at(first: u16, slots: &[u16], index: usize) -> u16
 }
 
 // The word of sixteen duties, or that a duty is wrong.
-#[derive(Drop)]
+#[derive(Clone, Copy)]
 enum WordRead {
     Word(u16),
     WrongDuty,

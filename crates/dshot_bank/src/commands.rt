@@ -23,19 +23,19 @@ use crate::{
 };
 use dshot::{DshotCommandSequence, MotorValues, throttles_to_dshot};
 
-#[derive(Drop)]
+#[derive(Clone, Copy)]
 pub enum DshotInitError {
     // Bidirectional DShot was asked for, but a lane cannot receive replies.
     RepliesUnsupported,
 }
 
-#[derive(Drop)]
+#[derive(Clone, Copy)]
 pub enum DshotCommandError {
     ThrottleOutOfRange,
     Faulted,
 }
 
-#[derive(Drop)]
+#[derive(Clone, Copy)]
 pub enum DshotSpecialCommandError {
     Faulted,
     // A special command needs every motor stopped and no command lease.
@@ -44,28 +44,28 @@ pub enum DshotSpecialCommandError {
     CommandPending,
 }
 
-#[derive(Drop)]
+#[derive(Clone, Copy)]
 pub enum DshotTelemetryRequestError {
     Busy,
     Faulted,
 }
 
 // What `enable_bidirectional` answers.
-#[derive(Drop)]
+#[derive(Clone, Copy)]
 pub enum Enable {
     Ok,
     Refused(DshotInitError),
 }
 
 // What `command_throttles` answers.
-#[derive(Drop)]
+#[derive(Clone, Copy)]
 pub enum Throttle {
     Ok,
     Refused(DshotCommandError),
 }
 
 // What `command_special` answers. If the lane is above 3, there is no such motor.
-#[derive(Drop)]
+#[derive(Clone, Copy)]
 pub enum Special {
     Ok,
     NoSuchMotor,
@@ -73,7 +73,7 @@ pub enum Special {
 }
 
 // What `request_telemetry` answers.
-#[derive(Drop)]
+#[derive(Clone, Copy)]
 pub enum Request {
     Ok,
     NoSuchMotor,
@@ -81,38 +81,38 @@ pub enum Request {
 }
 
 // Each answer, with the bank after it.
-#[derive(Drop)]
+#[derive(Clone, Copy)]
 pub struct Enabled {
     pub answer: Enable,
     pub bank: DshotBank,
 }
 
-#[derive(Drop)]
+#[derive(Clone, Copy)]
 pub struct Throttled {
     pub answer: Throttle,
     pub bank: DshotBank,
 }
 
-#[derive(Drop)]
+#[derive(Clone, Copy)]
 pub struct Queued {
     pub answer: Special,
     pub bank: DshotBank,
 }
 
-#[derive(Drop)]
+#[derive(Clone, Copy)]
 pub struct Requested {
     pub answer: Request,
     pub bank: DshotBank,
 }
 
-#[derive(Drop)]
+#[derive(Clone, Copy)]
 pub struct SentTaken {
     pub motor: MotorChoice,
     pub bank: DshotBank,
 }
 
 // An answer of `command_throttles`, with the demand after it.
-#[derive(Drop)]
+#[derive(Clone, Copy)]
 struct Demanded {
     answer: Throttle,
     demand: Demand,

@@ -23,7 +23,7 @@ use crate::{Core, DshotBank, DshotMotor, DshotStats, Frame, MotorChoice};
 
 const ALL_MOTORS_COMPLETE: u32 = 0b1111;
 
-#[derive(Drop)]
+#[derive(Clone, Copy)]
 pub enum DshotInterruptEvent {
     Completed,
     Faulted,
@@ -31,14 +31,14 @@ pub enum DshotInterruptEvent {
 }
 
 // What `on_dma_interrupt` answers. If the lane is above 3, there is no such motor.
-#[derive(Drop)]
+#[derive(Clone, Copy)]
 pub enum Interrupt {
     Event(DshotInterruptEvent),
     NoSuchMotor,
 }
 
 // The answer, with the orders and the bank after it.
-#[derive(Drop)]
+#[derive(Clone, Copy)]
 pub struct Interrupted {
     pub answer: Interrupt,
     pub orders: Orders,
@@ -46,7 +46,7 @@ pub struct Interrupted {
 }
 
 // An event, with the orders and the core after it.
-#[derive(Drop)]
+#[derive(Clone, Copy)]
 pub(crate) struct Handled {
     pub event: DshotInterruptEvent,
     pub orders: Orders,

@@ -65,7 +65,7 @@ pub fn fallback_release_due(now_ms: u32, last_release_ms: u32) -> bool
 //
 // `Motor1` here means physical timer/DMA lane 1. It must not be interpreted as Betaflight logical M1; the application performs that mapping
 // separately.
-#[derive(Drop)]
+#[derive(Clone, Copy)]
 pub enum DshotMotor {
     Motor1,
     Motor2,
@@ -74,7 +74,7 @@ pub enum DshotMotor {
 }
 
 // A motor, or none.
-#[derive(Drop)]
+#[derive(Clone, Copy)]
 pub enum MotorChoice {
     None,
     Some(DshotMotor),
@@ -124,7 +124,7 @@ impl DshotMotor {
     }
 }
 
-#[derive(Drop)]
+#[derive(Clone, Copy)]
 pub struct DshotStats {
     pub frames_started: u32,
     pub frames_completed: u32,
@@ -137,7 +137,7 @@ pub struct DshotStats {
 }
 
 // What the motors are asked to do.
-#[derive(Drop)]
+#[derive(Clone, Copy)]
 pub struct Demand {
     pub requested_values: MotorValues,
     pub lease_started_ms: u64,
@@ -148,7 +148,7 @@ pub struct Demand {
 
 // Special-command frames still to send, for one motor. These are the fields of its `DshotCommandSequence`, since an enum holds no array. They are
 // sent only while every throttle is zero. If a throttle demand is in force when a frame starts, it cancels them.
-#[derive(Drop)]
+#[derive(Clone, Copy)]
 pub enum MotorRun {
     None,
     Some {
@@ -160,7 +160,7 @@ pub enum MotorRun {
     },
 }
 
-#[derive(Drop)]
+#[derive(Clone, Copy)]
 pub struct Requests {
     pub telemetry_request: MotorChoice,
     pub telemetry_request_sent: MotorChoice,
@@ -168,7 +168,7 @@ pub struct Requests {
 }
 
 // In this order the fields leave no gap between them. A gap would be copied separately, and keep the struct out of registers.
-#[derive(Drop)]
+#[derive(Clone, Copy)]
 pub struct Frame {
     // For each lane: if it is set, the lane sends from the second buffer, and the first is its spare.
     pub in_second: [bool; LANES],
@@ -187,7 +187,7 @@ pub struct Frame {
 }
 
 // All of the bank except the replies and their counts.
-#[derive(Drop)]
+#[derive(Clone, Copy)]
 pub struct Core {
     pub timing: DshotTiming,
     pub demand: Demand,
@@ -198,7 +198,7 @@ pub struct Core {
 
 // What a lane's window read as: the reading, or why there is none. It is `ReplyRead` in one level of cases, which takes eight bytes. A bank is passed
 // by value, so a reply then stays in a register.
-#[derive(Drop)]
+#[derive(Clone, Copy)]
 pub enum StoredReply {
     Erpm(u32),
     Temperature(u8),
@@ -216,7 +216,7 @@ pub enum StoredReply {
 }
 
 // A lane's last reply, and its accounting.
-#[derive(Drop)]
+#[derive(Clone, Copy)]
 pub struct LaneReply {
     pub reply: StoredReply,
     pub valid: u32,
@@ -225,7 +225,7 @@ pub struct LaneReply {
     pub consecutive_invalid: u32,
 }
 
-#[derive(Drop)]
+#[derive(Clone, Copy)]
 pub struct DshotBank {
     pub core: Core,
     pub replies: [LaneReply; LANES],

@@ -15,7 +15,7 @@ use crate::{DshotBank, DshotStats, LANES};
 use dshot::{COMPARE_DMA_SLOTS, MotorValues};
 
 // What a view answers: a part of a buffer, or why there is none.
-#[derive(Drop)]
+#[derive(Clone, Copy)]
 pub enum View {
     Shown,
     WrongLength,

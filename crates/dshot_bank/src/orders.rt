@@ -13,7 +13,7 @@ ghost use Rattle.dshot_bank_spec.specs.OrderNumber.{code};
 
 use crate::{DshotMotor, LANES};
 
-#[derive(Drop)]
+#[derive(Clone, Copy)]
 pub enum OrderKind {
     None,
     // Swap the lane's spare in as its DMA buffer.
@@ -35,7 +35,7 @@ pub enum OrderKind {
 }
 
 // One order and its lane. If the order is for all lanes, the lane is 0.
-#[derive(Drop)]
+#[derive(Clone, Copy)]
 pub struct Order {
     pub kind: OrderKind,
     pub motor: u8,
@@ -47,7 +47,7 @@ pub const MOST_ORDERS: usize = 2 * LANES + 1;
 
 // `count` orders in one number, the first in its lowest seven bits. An order is 8 x its kind + its motor. A call returns them in a register. An array
 // would go through memory at every call.
-#[derive(Drop)]
+#[derive(Clone, Copy)]
 pub struct Orders {
     pub count: usize,
     pub codes: u64,

@@ -25,7 +25,7 @@ use dshot_reply::{
 pub type LaneFlags = [bool; 4];
 
 // A lane's reply as it is handed out.
-#[derive(Drop)]
+#[derive(Clone, Copy)]
 pub struct TakenReply {
     pub reply: ReplyRead,
 }
@@ -33,7 +33,7 @@ pub struct TakenReply {
 pub type DshotReplies = [TakenReply; 4];
 
 // The replies decoded since the last call. If there were none, all are `NoReply`.
-#[derive(Drop)]
+#[derive(Clone, Copy)]
 pub struct RepliesTaken {
     pub held: bool,
     pub replies: DshotReplies,
@@ -41,7 +41,7 @@ pub struct RepliesTaken {
 }
 
 // Each lane's bidirectional reply accounting.
-#[derive(Drop)]
+#[derive(Clone, Copy)]
 pub struct DshotReplyStats {
     pub valid: [u32; LANES],
     pub invalid: [u32; LANES],

@@ -32,21 +32,21 @@ use dshot::{
 use dshot_reply::refusals::WRONG_LENGTH;
 
 // The next special-command frame.
-#[derive(Drop)]
+#[derive(Clone, Copy)]
 pub(crate) enum FrameCommand {
     None,
     Some(DshotMotor, u16),
 }
 
 // The next special-command frame, and the run that is left.
-#[derive(Drop)]
+#[derive(Clone, Copy)]
 pub(crate) struct NextFrame {
     pub command: FrameCommand,
     pub left: MotorRun,
 }
 
 // What is sent to each lane, and the telemetry request that the set carries.
-#[derive(Drop)]
+#[derive(Clone, Copy)]
 pub(crate) struct FrameSet {
     pub values: MotorValues,
     pub telemetry_lane: TelemetryLane,
@@ -54,14 +54,14 @@ pub(crate) struct FrameSet {
 }
 
 // The first duties of the sequences that were written, and 0. If the call is refused, zeros and the number of the refusal.
-#[derive(Drop)]
+#[derive(Clone, Copy)]
 pub struct Spares {
     pub refusal: u32,
     pub first_duties: MotorValues,
 }
 
 // Whether a frame set started, with the orders, the first duties and the core after it.
-#[derive(Drop)]
+#[derive(Clone, Copy)]
 pub(crate) struct Sent {
     pub started: bool,
     pub orders: Orders,

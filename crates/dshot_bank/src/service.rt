@@ -23,7 +23,7 @@ use crate::{Core, DSHOT_FRAME_TIMEOUT_MS, Demand, DshotBank, DshotStats, LANES, 
 use dshot::{MotorValues, command_lease_expired};
 use dshot_reply::REPLY_WINDOW_SAMPLES;
 
-#[derive(Drop)]
+#[derive(Clone, Copy)]
 pub enum DshotServiceEvent {
     FrameStarted,
     Busy,
@@ -32,14 +32,14 @@ pub enum DshotServiceEvent {
 }
 
 // What `service` answers.
-#[derive(Drop)]
+#[derive(Clone, Copy)]
 pub enum Service {
     Event(DshotServiceEvent),
     WrongLength,
 }
 
 // The answer, the orders, the first duties for `StartFrame` (zeros without it), and the bank after the call.
-#[derive(Drop)]
+#[derive(Clone, Copy)]
 pub struct Served {
     pub answer: Service,
     pub orders: Orders,
@@ -48,7 +48,7 @@ pub struct Served {
 }
 
 // A service that sends nothing.
-#[derive(Drop)]
+#[derive(Clone, Copy)]
 pub(crate) struct Skipped {
     pub event: DshotServiceEvent,
     pub orders: Orders,

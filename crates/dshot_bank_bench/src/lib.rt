@@ -20,7 +20,7 @@ const WINDOWS: usize = 640;
 const LEASE_MS: u32 = 10;
 
 // A bank, and the sum of its orders so far.
-#[derive(Drop)]
+#[derive(Clone, Copy)]
 struct Run {
     pub bank: DshotBank,
     pub sum: u32,

@@ -7,7 +7,7 @@ use crate::widths::MOST_16;
 pub const MOST_SAMPLES: usize = 700;
 
 // How many samples the runs so far have, if they can be read.
-#[derive(Drop)]
+#[derive(Clone, Copy)]
 struct Samples {
     is_readable: bool,
     samples: usize,

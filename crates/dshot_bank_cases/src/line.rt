@@ -8,7 +8,7 @@ use crate::{calls, fields, numbers, orders, put, slots};
 use dshot_bank::DshotBank;
 
 // What comes of a line: whether it can be read, the bank after it, and how much of the buffer is filled.
-#[derive(Drop)]
+#[derive(Clone, Copy)]
 pub struct Done {
     pub is_readable: bool,
     pub bank: DshotBank,

@@ -7,7 +7,7 @@ use dshot_bank::DshotBank;
 use dshot_bank::orders::Orders;
 
 // If the line can be read: the answer, the orders with the first duties, and the bank after the call. If not: only the bank before it.
-#[derive(Drop)]
+#[derive(Clone, Copy)]
 pub struct Outcome {
     pub is_readable: bool,
     pub answer: Part,

@@ -7,7 +7,7 @@ use dshot::MotorValues;
 pub const MOST: usize = 17;
 
 // The first `count` numbers of the list count. The rest are 0.
-#[derive(Drop)]
+#[derive(Clone, Copy)]
 pub struct Part {
     pub count: usize,
     pub list: [u64; MOST],

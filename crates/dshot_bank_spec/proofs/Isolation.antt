@@ -23,7 +23,7 @@ use Rattle.dshot_bank_spec.specs.Steps.{buffers_fit, length_refusal, port_refusa
 use Rattle.dshot_bank_spec.specs.Lists.{trace, fresh}
 use Rattle.dshot_bank_spec.specs.Hide.{hide, hide_state, hide_replies, hide_taken, CapturesAlike, Alike, same, captured, none_left, one_more, AlikeAll, WireAlike, same_wired, wired, WireAlikeAll}
 use Rattle.dshot_bank_spec.specs.Claims.{Isolated}
-use Rattle.dshot_bank_spec.proofs.Hidden.{hidden-replies}
+use Rattle.dshot_bank_spec.proofs.HiddenLaws.{hidden-replies}
 use Rattle.dshot_bank_spec.proofs.LaneLaws.{set-tabulate, map-set}
 use Rattle.dshot_bank_spec.proofs.Refusals.{looks-leave-out}
 use Rattle.dshot_bank_spec.proofs.Service.{serviceSend, serviceOpen}

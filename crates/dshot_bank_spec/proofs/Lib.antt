@@ -8,7 +8,7 @@ pub mod Decoding
 pub mod Written
 pub mod SentReads
 pub mod LeaseEnds
-pub mod Hidden
+pub mod HiddenLaws
 pub mod PortLaws
 pub mod ThrottleLaws
 pub mod QueueLaws

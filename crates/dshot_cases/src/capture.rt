@@ -8,7 +8,7 @@ pub const MOST_SAMPLES: usize = 512;
 pub const UNTOUCHED: u16 = 43690;
 
 // How many samples a capture has, if it can be read.
-#[derive(Drop)]
+#[derive(Clone, Copy)]
 pub struct Capture {
     pub is_readable: bool,
     pub samples: usize,

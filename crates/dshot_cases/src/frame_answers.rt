@@ -8,7 +8,7 @@ use dshot::{ChecksumKind, DshotPacket, Encoded, PacketMade, Sequenced, TimingMad
 use dshot_reply::refusals::WRONG_LENGTH;
 
 // The number of a refusal, and zeros. If the call is done: 0, and up to four numbers. The numbers that a call does not give are 0.
-#[derive(Drop)]
+#[derive(Clone, Copy)]
 pub struct Four {
     pub refusal: u64,
     pub first: u64,

@@ -20,7 +20,7 @@ fn skip_spaces(line: &[u8], from: usize) -> usize {
 }
 
 // How many numbers a line has, if all of it can be read.
-#[derive(Drop)]
+#[derive(Clone, Copy)]
 pub struct Line {
     pub is_readable: bool,
     pub numbers: usize,

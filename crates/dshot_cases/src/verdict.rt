@@ -1,6 +1,6 @@
 // What comes of a line.
 
-#[derive(Drop)]
+#[derive(Clone, Copy)]
 pub enum Verdict {
     Nothing,
     Same,

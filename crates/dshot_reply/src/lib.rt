@@ -59,7 +59,7 @@ pub const EDT_ENABLE_ACK: u16 = 0x0e00;
 const ERPM_STOPPED: u16 = 0x0fff;
 
 // Why a reply could not be decoded. Every one is dropped and counted, never treated as a reading. `specs/Answers.antt` gives each its number.
-#[derive(Drop)]
+#[derive(Clone, Copy)]
 pub enum DshotReplyError {
     // No start edge with room for a whole reply after it, or too few edges after one.
     NoReply,
@@ -115,7 +115,7 @@ pub fn reply_transitions_for(value: u16) -> u32
 }
 
 // The transition bits of a reply, or why there are none.
-#[derive(Drop)]
+#[derive(Clone, Copy)]
 pub enum Transitions {
     Word(u32),
     Refused(DshotReplyError),
@@ -297,7 +297,7 @@ fn symbol_nibble(table: &[u8; 32], symbol: u32) -> u32
 }
 
 // The checked 12-bit value of a reply's transition bits, or why there is none.
-#[derive(Drop)]
+#[derive(Clone, Copy)]
 pub enum Decoded {
     Value(u16),
     Refused(DshotReplyError),
@@ -329,7 +329,7 @@ pub fn decode_gcr(transitions: u32) -> Decoded
 }
 
 // One decoded reply.
-#[derive(Drop)]
+#[derive(Clone, Copy)]
 pub enum DshotReply {
     // Electrical RPM divided by 100, as in the legacy UART frame; zero for a stopped motor.
     Erpm { erpm_div100: u32 },
@@ -348,7 +348,7 @@ pub enum DshotReply {
 }
 
 // What a value or a capture reads as, or why it is refused.
-#[derive(Drop)]
+#[derive(Clone, Copy)]
 pub enum ReplyRead {
     Reply(DshotReply),
     Refused(DshotReplyError),

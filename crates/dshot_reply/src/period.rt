@@ -7,7 +7,7 @@ ghost use Rattle.dshot_reply.specs.Answers.{value_period_answer};
 use crate::ERPM_STOPPED;
 
 // The period of a value and the step to the next one, both 0 at rest, or that the period is 0.
-#[derive(Drop)]
+#[derive(Clone, Copy)]
 pub enum ValuePeriod {
     Period { period_us: u16, step_us: u16 },
     ZeroPeriod,

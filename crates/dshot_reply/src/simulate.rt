@@ -11,7 +11,7 @@ use crate::refusals::{NO_MASK, WRONG_LENGTH};
 use crate::{MAX_REPLY_SAMPLES, REPLY_BITS, REPLY_SAMPLES_PER_BIT, reply_transitions_for};
 
 // The value of a period, or that it has none.
-#[derive(Drop)]
+#[derive(Clone, Copy)]
 pub enum PeriodValue {
     Value(u16),
     OutOfRange,
@@ -76,7 +76,7 @@ fn write_bits(out: &mut [u16], lead: usize, pin_mask: u16, word: u32)
 }
 
 // Whether a capture was written.
-#[derive(Drop)]
+#[derive(Clone, Copy)]
 pub enum Simulated {
     Written,
     NoMask,

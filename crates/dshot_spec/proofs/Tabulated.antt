@@ -1,6 +1,6 @@
 -- The laws of a list by the entry at each place, for every count. They give its length, its entries, and what a loop that fills it keeps.
 -- Assumes nothing.
-use Rattle.core.specs.Prelude.{◌≡◌, ℕ, zero, suc, ◌+◌, ◌<◌, ◌≤◌, List, [], ◌∷◌, ◌++◌, length, get_or, drop, set}
+use Rattle.std.specs.Prelude.{◌≡◌, ℕ, zero, suc, ◌+◌, ◌<◌, ◌≤◌, List, [], ◌∷◌, ◌++◌, length, get_or, drop, set}
 use mathlib.Core.Path.{◌∙◌, refl, sym, ap}
 use mathlib.Core.List.{append-nil}
 use native.Mathlib.Omega.{arith}

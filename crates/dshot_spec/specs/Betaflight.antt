@@ -1,7 +1,7 @@
 -- A DShot frame as Betaflight's DShot documentation describes it, bit by bit as it goes over the wire. It is written from what is known of that
 -- documentation, not from the code. The documentation's text was not at hand (docs/DIFFERENCES.md).
 -- Assumes nothing.
-use Rattle.core.specs.Prelude.{ℕ, zero, suc, ◌+◌, ◌-◌, ◌*◌, ◌/◌, ◌%◌, ◌^◌, ◌≤◌, Bool, true, false, List, [], ◌∷◌, ◌++◌, bit_xor}
+use Rattle.std.specs.Prelude.{ℕ, zero, suc, ◌+◌, ◌-◌, ◌*◌, ◌/◌, ◌%◌, ◌^◌, ◌≤◌, Bool, true, false, List, [], ◌∷◌, ◌++◌, bit_xor}
 
 -- the lowest n bits of a number, the highest of them first
 abbrev pub bits : ℕ → ℕ → List ℕ

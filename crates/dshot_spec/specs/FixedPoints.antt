@@ -1,6 +1,6 @@
 -- Document 01's fixed points in one table, and what each row claims.
 -- Assumes nothing.
-use Rattle.core.specs.Prelude.{◌≡◌, ℕ, Bool, true, false, List, [], ◌∷◌}
+use Rattle.std.specs.Prelude.{◌≡◌, ℕ, Bool, true, false, List, [], ◌∷◌}
 use Rattle.dshot_reply_spec.specs.Answer.{Answer, given, refused}
 use Rattle.dshot_reply_spec.specs.Gcr.{reply_word}
 use Rattle.dshot_reply_spec.specs.Move.{Moved}

@@ -2,7 +2,7 @@
 -- Stands for `command_lease_expired` of crates/ferrowasp-output/src/dshot.rs (Eirik2020/ferro-wasp, commit 9cb8aca1a6, Copyright (c) 2026 Kaldstrand,
 -- Apache-2.0), changed: rewritten as a definition.
 -- Assumes nothing.
-use Rattle.core.specs.Prelude.{ℕ, ◌+◌, ◌-◌, ◌%◌, ◌^◌, Bool, nat_lt}
+use Rattle.std.specs.Prelude.{ℕ, ◌+◌, ◌-◌, ◌%◌, ◌^◌, Bool, nat_lt}
 
 -- the time from `started` to `now` on clocks of so many bits: the wrapping subtraction, the Rust's `wrapping_sub`
 abbrev pub elapsed : ℕ → ℕ → ℕ → ℕ

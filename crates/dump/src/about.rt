@@ -8,7 +8,7 @@ use crate::declaration::read_declaration;
 use crate::said::Declaration;
 
 // The unit in femtoseconds, or 0 if there is no timescale.
-#[derive(Drop)]
+#[derive(Clone, Copy)]
 pub enum ScaleRead {
     Unit(u64),
     Refused,
@@ -50,7 +50,7 @@ pub fn dump_scale(text: &[u8]) -> ScaleRead
 }
 
 // The place after a variable's declaration, the place and the length of its name, and its size.
-#[derive(Drop)]
+#[derive(Clone, Copy)]
 pub enum VariableRead {
     Variable {
         next: usize,

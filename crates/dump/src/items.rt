@@ -12,7 +12,7 @@ use dump_words::word::{NextWord, is_end, next_word, same_word};
 
 // Where reading stands: the place of the next word, whether it is in a block, the time, the signal's level (2 for none), how many samples are filled,
 // and the time of the next sample.
-#[derive(Drop)]
+#[derive(Clone, Copy)]
 pub struct State {
     at: usize,
     in_block: bool,
@@ -22,7 +22,7 @@ pub struct State {
     next: u64,
 }
 
-#[derive(Drop)]
+#[derive(Clone, Copy)]
 pub enum Stepped {
     Go(State),
     Stop { cause: u32, place: usize },
@@ -152,7 +152,7 @@ fn step(
     }
 }
 
-#[derive(Drop)]
+#[derive(Clone, Copy)]
 pub enum ItemsRead {
     Done,
     Broken { cause: u32, place: usize },

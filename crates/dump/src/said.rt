@@ -8,7 +8,7 @@ use dump_words::causes::TEXT_ENDS;
 
 // What a declaration says, and the place after it. A variable has the places of its code and its name. `Defined` is `$enddefinitions`, with its place
 // and the place after that word.
-#[derive(Drop)]
+#[derive(Clone, Copy)]
 pub enum Declaration {
     Skipped(usize),
     Timescale {

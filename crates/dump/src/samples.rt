@@ -37,7 +37,7 @@ fn range_cause(offset: u64, period: u64, count: u64) -> u32
 }
 
 // The samples are filled, or reading broke.
-#[derive(Drop)]
+#[derive(Clone, Copy)]
 enum Scanned {
     Done { count: usize },
     Broken { cause: u32, place: u64 },
@@ -150,7 +150,7 @@ pub fn read_dump(
 
 // Where reading breaks, and why. The place is that of the word that decided; for an early end, the length of the text. The cause is 0 if the dump is
 // read. The sample is the first without a level, if that is the cause. `NO_PLACE` stands for what there is not.
-#[derive(Drop)]
+#[derive(Clone, Copy)]
 pub struct DumpPlace {
     pub place: u64,
     pub cause: u32,

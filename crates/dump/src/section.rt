@@ -7,7 +7,7 @@ use dump_words::causes::{END_MISSING, TEXT_ENDS, WRONG_CODE};
 use dump_words::word::{NextWord, is_end, is_name, next_word};
 
 // Where reading goes on, or where and why it breaks.
-#[derive(Drop)]
+#[derive(Clone, Copy)]
 pub enum Next {
     At(usize),
     Broken { cause: u32, place: usize },

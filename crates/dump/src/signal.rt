@@ -12,7 +12,7 @@ use dump_words::name::is_escaped;
 use dump_words::word::same_word;
 
 // The places of the signal's code, and the place after `$enddefinitions $end`.
-#[derive(Drop)]
+#[derive(Clone, Copy)]
 pub enum Signal {
     Found {
         code_at: usize,
@@ -26,7 +26,7 @@ pub enum Signal {
 }
 
 // How often the name is declared: never, once with the places of its code, or more often.
-#[derive(Drop)]
+#[derive(Clone, Copy)]
 enum Declared {
     Never,
     Once { code_at: usize, code_to: usize },

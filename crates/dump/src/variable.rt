@@ -14,7 +14,7 @@ use dump_words::number::{NumberRead, number_of};
 use dump_words::word::{NextWord, is_end, is_name, next_word};
 
 // A variable whose name has been read.
-#[derive(Drop)]
+#[derive(Clone, Copy)]
 pub struct Named {
     size: u64,
     code_at: usize,

@@ -32,7 +32,7 @@ pub fn is_var_type(word: &[u8]) -> bool
 }
 
 // `Note` is `$date` or `$version`, `Block` one of `$dumpall $dumpoff $dumpon $dumpvars`. A change has its level: 0, 1, or 2 for none.
-#[derive(Drop)]
+#[derive(Clone, Copy)]
 pub enum WordKind {
     Comment,
     Note,

@@ -8,7 +8,7 @@ use crate::number::is_digit;
 
 // Where reading stands among indices: outside brackets, before a number, after its minus, among its digits, or after them. Of [msb:lsb] those with
 // `Last` are for the second number.
-#[derive(Drop)]
+#[derive(Clone, Copy)]
 pub enum Part {
     Outside,
     Before,
@@ -119,7 +119,7 @@ pub fn index_word(part: Part, word: &[u8]) -> Part
 }
 
 // Where a name begins in its word, how long it is, and where its index stands at the end of the word.
-#[derive(Drop)]
+#[derive(Clone, Copy)]
 pub struct Cut {
     pub skip: usize,
     pub size: usize,

@@ -40,7 +40,7 @@ fn with_digit(value: u64, b: u8) -> u64
     TIME_LIMIT
 }
 
-#[derive(Drop)]
+#[derive(Clone, Copy)]
 pub enum NumberRead {
     Number(u64),
     NotANumber,

@@ -7,7 +7,7 @@ ghost use Rattle.dump_words.specs.Answers.{scale_answer, clipped_scale};
 use crate::table::index_in;
 
 // A number before its unit, or a unit of time in femtoseconds.
-#[derive(Drop)]
+#[derive(Clone, Copy)]
 pub enum Scale {
     Number(u64),
     Unit(u64),

@@ -59,7 +59,7 @@ fn word_end(text: &[u8], from: usize) -> usize
 }
 
 // The place of a word's first byte and the place after its last, or the end of the text.
-#[derive(Drop)]
+#[derive(Clone, Copy)]
 pub enum NextWord {
     Word { at: usize, to: usize },
     End,

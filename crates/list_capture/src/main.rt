@@ -73,7 +73,7 @@ fn write_line(file: &[u8]) {
 }
 
 // How many bytes at the start of a buffer were read, and whether a read failed.
-#[derive(Drop)]
+#[derive(Clone, Copy)]
 struct Input {
     length: usize,
     failed: bool,

@@ -1,0 +1,51 @@
+-- `capture_file::file::fill_samples` fills the first slots with the numbers that stand there. The loop's invariant: with the numbers that are
+-- left, the slots are what they are to be. That a number is missing cannot come about.
+-- Assumes nothing.
+use mathlib.Core.Path.{sym, ap, ◌∙◌}
+use Prim.Native.Nat.{◌-◌}
+use native.Mathlib.Omega.{arith}
+use Rattle.capture_file.specs.FileSteps.{number_answer}
+use Rattle.capture_file.proofs.SampleLaws.{Filling, filling-start, filling-more, filling-never, filling-end}
+use borrow.Author.Rules.{rules}
+use Rattle.capture_file.proofs.file.fill_samples.Goals as goal
+
+pub loop-i-init : goal.loop-i-init
+loop-i-init c =
+    let start = c in
+    let a = start.args in
+    filling-start a.file.now a.samples.now a.from a.count start.requires.1
+
+pub bounds-samples-i : goal.bounds-samples-i
+bounds-samples-i c =
+    let v = c.loop-i in
+    let start = c in
+    omega (arith, v.invariant.same, start.requires.0)
+
+pub shape_of-samples-in-NotANumber : goal.shape_of-samples-in-NotANumber
+shape_of-samples-in-NotANumber c =
+    c.loop-i.invariant.same
+
+pub returns-in-NotANumber : goal.returns-in-NotANumber
+returns-in-NotANumber c =
+    let read = c.read_number in
+    let a = c.args in
+    let v = c.loop-i in
+    let e = sym read.ensures ∙ ap (number_answer a.file.now) c.in-NotANumber.is in
+    absurd (filling-never v.invariant c.loop-i-test.true e)
+
+pub loop-i-preserved : goal.loop-i-preserved
+loop-i-preserved c =
+    let read = c.read_number in
+    let x = c.value-1.given in
+    let start = c in
+    let v = c.loop-i in
+    let e = sym read.ensures ∙ ap (number_answer start.args.file.now) x.1 in
+    filling-more v.invariant start.requires.0 c.loop-i-test.true x.0.0 x.0.1.0 e
+
+pub shape_of-samples : goal.shape_of-samples
+shape_of-samples c =
+    c.loop-i.invariant.same
+
+pub returns : goal.returns
+returns c =
+    filling-end c.loop-i.invariant c.loop-i-test.false

@@ -1,0 +1,14 @@
+-- `capture_file::file::fill_samples` fills the first slots with the numbers that stand there. The loop's invariant: with the numbers that are
+use mathlib.Core.Path.{sym, ap, ◌∙◌}
+use Prim.Native.Nat.{◌-◌}
+use native.Mathlib.Omega.{arith}
+use Rattle.capture_file.specs.FileSteps.{number_answer}
+use Rattle.capture_file.proofs.SampleLaws.{Filling, filling-start, filling-more, filling-never, filling-end}
+use borrow.Author.Rules.{rules}
+use Rattle.capture_file.proofs.file.fill_samples.Given as goal
+
+abbrev pub invariant-loop-i : goal.invariant-loop-i
+invariant-loop-i l = Filling l.file l.initial.samples l.from l.count l.samples l.at l.i
+
+abbrev pub decreases-loop-i : goal.decreases-loop-i
+decreases-loop-i l = l.count - l.i

@@ -1,0 +1,18 @@
+-- `capture_file::file::put_samples` puts the groups of all samples over the bytes from a place on. The loop's invariant: with the groups of the
+use mathlib.Core.Path.{◌≡◌, refl, ap, ◌∙◌}
+use mathlib.Core.List.{[], ◌++◌}
+use Prim.Native.Nat.{◌+◌, ◌-◌}
+use lib.ListN.{length, drop, get_or, drop_of_length-le}
+use Rattle.capture_file.specs.Groups.{groups}
+use Rattle.capture_file.specs.File.{all_groups}
+use Rattle.capture_file.specs.FileSteps.{put}
+use Rattle.capture_file.proofs.WriteLaws.{Ahead, ahead-fits, ahead_more, ahead-end, next-groups}
+use borrow.Author.Rules.{rules}
+use Rattle.capture_file.proofs.file.put_samples.Given as goal
+
+abbrev pub invariant-loop-i : goal.invariant-loop-i
+invariant-loop-i l =
+    Ahead (put l.from (all_groups l.samples) l.initial.file) (l.from + length (all_groups l.samples)) l.file l.at (all_groups (drop l.i l.samples)) × (length l.file ≡ length l.initial.file)
+
+abbrev pub decreases-loop-i : goal.decreases-loop-i
+decreases-loop-i l = length l.samples - l.i

@@ -1,0 +1,23 @@
+-- `dshot_reply::simulate::answer_for` meets its contract: each return is a case of the two tests.
+-- Assumes nothing.
+use Prim.Native.Nat.{◌+◌}
+use native.Mathlib.Omega.{arith}
+use borrow.Author.Tests.{lt-ltb, le-ltb, eq-eqb, ne_eqb}
+use Rattle.dshot_reply.specs.Steps.{simulated_refusal}
+use Rattle.dshot_reply.proofs.simulate.answer_for.Goals as goal
+
+pub returns-then-out_length-lt-MAX_REPLY_SAMPLES : goal.returns-then-out_length-lt-MAX_REPLY_SAMPLES
+unfolding simulated_refusal
+returns-then-out_length-lt-MAX_REPLY_SAMPLES c = simp (lt-ltb c.args.out_length (c.args.lead + 69) (omega arith))
+
+pub returns-then-out_length-lead : goal.returns-then-out_length-lead
+unfolding simulated_refusal
+returns-then-out_length-lead c = simp (lt-ltb c.args.out_length (c.args.lead + 69) (omega arith))
+
+pub returns-then-pin_mask-eq0 : goal.returns-then-pin_mask-eq0
+unfolding simulated_refusal
+returns-then-pin_mask-eq0 c = simp (le-ltb c.args.out_length (c.args.lead + 69) (omega arith), eq-eqb _ 0 c.if-pin_mask-eq0.true)
+
+pub returns : goal.returns
+unfolding simulated_refusal
+returns c = simp (le-ltb c.args.out_length (c.args.lead + 69) (omega arith), ne_eqb _ 0 c.if-pin_mask-eq0.false)

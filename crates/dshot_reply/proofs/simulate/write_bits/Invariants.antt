@@ -1,0 +1,17 @@
+-- `dshot_reply::simulate::write_bits` leaves the word's samples in the buffer. The loop's invariant: three samples are written for each bit passed.
+use mathlib.Core.Path.{◌≡◌, refl, ◌∙◌}
+use Prim.Native.Nat.{suc, ◌+◌, ◌*◌, ◌-◌, ◌≤◌}
+use native.Mathlib.Omega.{arith}
+use lib.ListN.{length, take, drop, length-drop}
+use lib.Seq.{length-take-le}
+use borrow.Author.Rules.{rules}
+use Rattle.dshot_reply.proofs.SimLaws.{Left, after, left-start, after-start, left-next, after_next, after-end}
+use Rattle.dshot_reply.proofs.simulate.write_bits.Given as goal
+
+abbrev pub invariant-loop-left : goal.invariant-loop-left
+invariant-loop-left l =
+    (l.left ≤ 21) × (l.at ≡ l.lead + 3 * (21 - l.left)) × (length l.out ≡ length l.initial.out)
+    × Left 3 l.word l.pin_mask l.level l.left (3 * (21 - l.left)) × (l.out ≡ after 3 l.word l.lead l.pin_mask (length l.initial.out) (3 * (21 - l.left)))
+
+abbrev pub decreases-loop-left : goal.decreases-loop-left
+decreases-loop-left l = l.left

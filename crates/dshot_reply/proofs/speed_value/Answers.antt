@@ -1,0 +1,24 @@
+-- `dshot_reply::speed_value` meets its contract.
+-- Assumes nothing.
+use mathlib.Core.Path.{◌∙◌}
+use lib.Dec.{lit≤}
+use borrow.Author.Tests.{eq-eqb, ne_eqb}
+use borrow.Author.Rules.{rules}
+use Rattle.dshot_reply_spec.specs.Value.{speed_value}
+use Rattle.dshot_reply.proofs.WordLaws.{period-lt, period-shl}
+use Rattle.dshot_reply.proofs.speed_value.Goals as goal
+
+pub returns-then-value-eq-ERPM_STOPPED : goal.returns-then-value-eq-ERPM_STOPPED
+unfolding speed_value
+returns-then-value-eq-ERPM_STOPPED c = simp (eq-eqb _ 0xfff c.if-value-eq-ERPM_STOPPED.true)
+
+pub speed_of-requires : goal.speed_of-requires
+speed_of-requires c =
+    let v = c.args.value in
+    rw (period-shl 32 v (lit≤ tt) c.requires) (period-lt v c.requires)
+
+pub returns : goal.returns
+unfolding speed_value
+returns c =
+    let v = c.args.value in
+    c.speed_of.ensures ∙ simp (ne_eqb v 0xfff c.if-value-eq-ERPM_STOPPED.false, period-shl 32 v (lit≤ tt) c.requires)
