@@ -1,7 +1,6 @@
 -- `case_text::numbers::digit` has the digit of a byte, in each of its three cases.
 -- Assumes nothing.
 use native.Mathlib.Omega.{arith}
-use borrow.Author.Rules.{rules}
 use borrow.Author.Tests.{lt-ltb, le-ltb}
 use Rattle.case_text.specs.Numbers.{digit_of}
 use Rattle.case_text.proofs.numbers.digit.Goals as goal

@@ -1,11 +1,8 @@
 -- `case_text::numbers::find` meets its contract: none of the bytes from `from` to `i` is the one looked for. What is left of the text falls.
 use mathlib.Core.Path.{◌≡◌}
 use Prim.Native.Nat.{◌+◌, ◌-◌, ◌≤◌}
-use native.Mathlib.Omega.{arith}
 use lib.ListN.{length, drop}
-use borrow.Author.Rules.{rules}
 use Rattle.case_text.specs.Numbers.{before}
-use Rattle.case_text.proofs.NumberLaws.{before_here, before_more, before-none}
 use Rattle.case_text.proofs.numbers.find.Given as goal
 
 abbrev pub invariant-loop-i : goal.invariant-loop-i

@@ -1,6 +1,5 @@
 -- `case_text::numbers::finish` meets its contract.
 -- Assumes nothing.
-use borrow.Author.Rules.{rules}
 use borrow.Author.Tests.{eq-eqb, ne_eqb}
 use Rattle.case_text.specs.Numbers.{ended}
 use Rattle.case_text.proofs.numbers.finish.Goals as goal

@@ -1,14 +1,13 @@
 -- `case_text::numbers::read_number` meets its contract: the digits from `from` to `i` have come to `value`. What is left of the line falls.
 -- Assumes nothing.
 use mathlib.Core.Path.{◌≡◌, sym, ◌∙◌}
-use Prim.Native.Nat.{◌+◌, ◌-◌, ◌*◌, ◌≤◌, ◌<◌}
-use lib.ListN.{length}
+use Prim.Native.Nat.{◌+◌, ◌*◌, ◌≤◌}
 use lib.Dec.{lit<}
 use borrow.Author.Rules.{rules}
 use Rattle.case_text.specs.declared.numbers.Grown.TheVariants.{To}
-use Rattle.case_text.specs.Numbers.{past64, number_at}
+use Rattle.case_text.specs.Numbers.{past64}
 use Rattle.case_text.specs.Steps.{grown}
-use Rattle.case_text.proofs.NumberLaws.{read_on, read-start, read-end, read-stop, read_more, read-large, grown-to, grown-fits, grown-large}
+use Rattle.case_text.proofs.NumberLaws.{read-start, read-end, read-stop, read_more, read-large, grown-to, grown-fits, grown-large}
 use Rattle.case_text.proofs.numbers.read_number.Goals as goal
 
 pub loop-i-init : goal.loop-i-init
@@ -39,7 +38,7 @@ loop-i-preserved c =
     let v = c.loop-i in
     let d = c.digit-next in
     let n = v.value * 10 + d.result in
-    let x = c.larger-1.given.0.0 in
+    let x = c.in-To.larger in
     let g : To x ≡ grown n = cc in
     let more = read_more a.line.now a.from v.value v.i (search rules) (λ e. c.if-next-eq-NO_DIGIT.false (d.ensures ∙ e)) in
     let to : x ≡ n = grown-to n x g in

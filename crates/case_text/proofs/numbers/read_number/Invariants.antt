@@ -1,13 +1,9 @@
 -- `case_text::numbers::read_number` meets its contract: the digits from `from` to `i` have come to `value`. What is left of the line falls.
-use mathlib.Core.Path.{◌≡◌, sym, ◌∙◌}
-use Prim.Native.Nat.{◌+◌, ◌-◌, ◌*◌, ◌≤◌, ◌<◌}
+use mathlib.Core.Path.{◌≡◌}
+use Prim.Native.Nat.{◌-◌, ◌<◌}
 use lib.ListN.{length}
-use lib.Dec.{lit<}
-use borrow.Author.Rules.{rules}
-use Rattle.case_text.specs.declared.numbers.Grown.TheVariants.{To}
 use Rattle.case_text.specs.Numbers.{past64, number_at}
-use Rattle.case_text.specs.Steps.{grown}
-use Rattle.case_text.proofs.NumberLaws.{read_on, read-start, read-end, read-stop, read_more, read-large, grown-to, grown-fits, grown-large}
+use Rattle.case_text.proofs.NumberLaws.{read_on}
 use Rattle.case_text.proofs.numbers.read_number.Given as goal
 
 abbrev pub invariant-loop-i : goal.invariant-loop-i

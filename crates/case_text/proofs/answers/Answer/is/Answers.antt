@@ -1,6 +1,5 @@
 -- `case_text::answers::Answer::is` compares each of the three numbers.
 -- Assumes nothing.
-use borrow.Author.Rules.{rules}
 use borrow.Author.Tests.{eq-eqb, ne_eqb}
 use Rattle.case_text.proofs.answers.Answer.is.Goals as goal
 
