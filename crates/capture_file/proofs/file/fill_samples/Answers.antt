@@ -36,11 +36,11 @@ returns-in-NotANumber c =
 pub loop-i-preserved : goal.loop-i-preserved
 loop-i-preserved c =
     let read = c.read_number in
-    let x = c.value-1.given in
+    let x = c.in-Number in
     let start = c in
     let v = c.loop-i in
-    let e = sym read.ensures ∙ ap (number_answer start.args.file.now) x.1 in
-    filling-more v.invariant start.requires.0 c.loop-i-test.true x.0.0 x.0.1.0 e
+    let e = sym read.ensures ∙ ap (number_answer start.args.file.now) x.is in
+    filling-more v.invariant start.requires.0 c.loop-i-test.true x.value x.next e
 
 pub shape_of-samples : goal.shape_of-samples
 shape_of-samples c =

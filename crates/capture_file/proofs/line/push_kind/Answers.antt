@@ -1,16 +1,11 @@
 -- `capture_file::line::push_kind` writes the word of the kind, in each arm of its match.
 -- Assumes nothing.
-use mathlib.Core.Path.{◌≡◌}
-use Prim.Native.Nat.{ℕ, suc, ◌≤◌, zero-le}
+use Prim.Native.Nat.{◌≤◌}
 use native.Mathlib.Omega.{arith}
 use lib.ListN.{get_or-eq_default}
 use borrow.Author.Rules.{rules}
 use Rattle.capture_file.specs.Line.{kind_texts, kind_text}
 use Rattle.capture_file.proofs.line.push_kind.Goals as goal
-
--- a number from n on that is not n
-past : {n k : ℕ} → n ≤ k → (k ≡ n → ⊥) → suc n ≤ k
-past h e = omega arith
 
 pub returns-in-0 : goal.returns-in-0
 unfolding kind_text
@@ -51,8 +46,5 @@ returns-in-8 c = rw c.in-8.is c.push_text-in-8.ensures
 pub returns-in_default : goal.returns-in_default
 unfolding kind_text
 returns-in_default c =
-    let r = c.in_default.rest in
-    let q = r.0.0.0.0.0 in
-    let four : 4 ≤ c.args.kind = past (past (past (past zero-le q.0.0.0.1) q.0.0.1) q.0.1) q.1 in
-    let nine : 9 ≤ c.args.kind = past (past (past (past (past four r.0.0.0.0.1) r.0.0.0.1) r.0.0.1) r.0.1) r.1 in
+    let nine : 9 ≤ c.args.kind = omega arith in
     rw (get_or-eq_default kind_texts "" {n = c.args.kind} nine)

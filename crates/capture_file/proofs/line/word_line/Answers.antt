@@ -13,7 +13,7 @@ unfolding listed_word
 returns-in-Value c =
     let a = c.args in
     told (λ v. listed_value a.word v a.extended_telemetry)
-    (sym (ap decoded_answer c.in-Value.is) ∙ c.decode_gcr.ensures) c.Value-line.ensures
+    (sym (ap decoded_answer c.in-Value.is) ∙ c.decode_gcr.ensures) c.value_line.ensures
 
 pub returns-in-Refused : goal.returns-in-Refused
 unfolding listed_word

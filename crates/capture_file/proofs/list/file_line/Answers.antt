@@ -10,29 +10,23 @@ use Rattle.capture_file.proofs.list.file_line.Goals as goal
 
 pub slice_bounds-line_of-end : goal.slice_bounds-line_of-end
 slice_bounds-line_of-end c =
-    let found = c in
-    let read = found in
-    let file = read.args.file.now in
-    omega (arith, count_fits file _ _ (sym (ap read_answer found.in-Capture.is) ∙ read.read_capture.ensures.0))
+    let file = c.args.file.now in
+    omega (arith, count_fits file _ _ (sym (ap read_answer c.in-Capture.is) ∙ c.read_capture.ensures.result_value))
 
 pub returns-in-Capture : goal.returns-in-Capture
 returns-in-Capture c =
-    let found = c in
-    let read = found in
-    let file = read.args.file.now in
-    let e = sym (ap read_answer found.in-Capture.is) ∙ read.read_capture.ensures.0 in
-    listed-file file _ _ e read.read_capture.ensures.1 (rw sub-zero at c.Line-of.ensures)
+    let file = c.args.file.now in
+    let e = sym (ap read_answer c.in-Capture.is) ∙ c.read_capture.ensures.result_value in
+    listed-file file _ _ e c.read_capture.ensures.samples_after (rw sub-zero at c.line_of.ensures)
 
 pub returns-in-NotACapture : goal.returns-in-NotACapture
 returns-in-NotACapture c =
-    let read = c in
-    let file = read.args.file.now in
-    let e = sym (ap read_answer c.in-NotACapture.is) ∙ read.read_capture.ensures.0 in
+    let file = c.args.file.now in
+    let e = sym (ap read_answer c.in-NotACapture.is) ∙ c.read_capture.ensures.result_value in
     refused-file file _ refl e c.refused_line.ensures
 
 pub returns-in-WrongLength : goal.returns-in-WrongLength
 returns-in-WrongLength c =
-    let read = c in
-    let file = read.args.file.now in
-    let e = sym (ap read_answer c.in-WrongLength.is) ∙ read.read_capture.ensures.0 in
+    let file = c.args.file.now in
+    let e = sym (ap read_answer c.in-WrongLength.is) ∙ c.read_capture.ensures.result_value in
     refused-file file _ refl e c.refused_line-in-WrongLength.ensures
