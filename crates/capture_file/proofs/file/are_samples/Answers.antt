@@ -9,7 +9,6 @@ use Rattle.capture_file.specs.Groups.{read_all}
 use Rattle.dshot_reply_spec.specs.Answer.{is_given}
 use Rattle.capture_file.specs.FileSteps.{number_answer}
 use Rattle.capture_file.proofs.SampleLaws.{none-known, more-known, nothing_left}
-use borrow.Author.Rules.{rules}
 use Rattle.capture_file.proofs.file.are_samples.Goals as goal
 
 pub loop-left-init : goal.loop-left-init

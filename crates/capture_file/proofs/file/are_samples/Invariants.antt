@@ -1,13 +1,8 @@
 -- `capture_file::file::are_samples` says whether as many numbers stand there, and nothing after them. The loop's invariant: it is so just where
-use mathlib.Core.Path.{◌≡◌, refl, sym, ap, ◌∙◌}
-use Prim.Native.Nat.{ℕ}
-use native.Mathlib.Omega.{arith}
+use mathlib.Core.Path.{◌≡◌}
 use lib.ListN.{drop}
 use Rattle.capture_file.specs.Groups.{read_all}
 use Rattle.dshot_reply_spec.specs.Answer.{is_given}
-use Rattle.capture_file.specs.FileSteps.{number_answer}
-use Rattle.capture_file.proofs.SampleLaws.{none-known, more-known, nothing_left}
-use borrow.Author.Rules.{rules}
 use Rattle.capture_file.proofs.file.are_samples.Given as goal
 
 abbrev pub invariant-loop-left : goal.invariant-loop-left

@@ -2,11 +2,9 @@
 -- left, the slots are what they are to be. That a number is missing cannot come about.
 -- Assumes nothing.
 use mathlib.Core.Path.{sym, ap, ◌∙◌}
-use Prim.Native.Nat.{◌-◌}
 use native.Mathlib.Omega.{arith}
 use Rattle.capture_file.specs.FileSteps.{number_answer}
-use Rattle.capture_file.proofs.SampleLaws.{Filling, filling-start, filling-more, filling-never, filling-end}
-use borrow.Author.Rules.{rules}
+use Rattle.capture_file.proofs.SampleLaws.{filling-start, filling-more, filling-never, filling-end}
 use Rattle.capture_file.proofs.file.fill_samples.Goals as goal
 
 pub loop-i-init : goal.loop-i-init

@@ -1,10 +1,6 @@
 -- `capture_file::file::fill_samples` fills the first slots with the numbers that stand there. The loop's invariant: with the numbers that are
-use mathlib.Core.Path.{sym, ap, ◌∙◌}
 use Prim.Native.Nat.{◌-◌}
-use native.Mathlib.Omega.{arith}
-use Rattle.capture_file.specs.FileSteps.{number_answer}
-use Rattle.capture_file.proofs.SampleLaws.{Filling, filling-start, filling-more, filling-never, filling-end}
-use borrow.Author.Rules.{rules}
+use Rattle.capture_file.proofs.SampleLaws.{Filling}
 use Rattle.capture_file.proofs.file.fill_samples.Given as goal
 
 abbrev pub invariant-loop-i : goal.invariant-loop-i

@@ -7,9 +7,7 @@ use Prim.Native.Nat.{ℕ, ◌+◌, ◌<◌}
 use lib.ListN.{length, drop, get_or, drop_of_length-le}
 use Rattle.capture_file.specs.Groups.{groups}
 use Rattle.capture_file.specs.File.{all_groups}
-use Rattle.capture_file.specs.FileSteps.{put}
 use Rattle.capture_file.proofs.WriteLaws.{Ahead, ahead-fits, ahead_more, ahead-end, next-groups}
-use borrow.Author.Rules.{rules}
 use Rattle.capture_file.proofs.file.put_samples.Goals as goal
 
 -- where a sample is left, its groups come first

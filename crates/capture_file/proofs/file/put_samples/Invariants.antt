@@ -1,13 +1,10 @@
 -- `capture_file::file::put_samples` puts the groups of all samples over the bytes from a place on. The loop's invariant: with the groups of the
-use mathlib.Core.Path.{◌≡◌, refl, ap, ◌∙◌}
-use mathlib.Core.List.{[], ◌++◌}
+use mathlib.Core.Path.{◌≡◌}
 use Prim.Native.Nat.{◌+◌, ◌-◌}
-use lib.ListN.{length, drop, get_or, drop_of_length-le}
-use Rattle.capture_file.specs.Groups.{groups}
+use lib.ListN.{length, drop}
 use Rattle.capture_file.specs.File.{all_groups}
 use Rattle.capture_file.specs.FileSteps.{put}
-use Rattle.capture_file.proofs.WriteLaws.{Ahead, ahead-fits, ahead_more, ahead-end, next-groups}
-use borrow.Author.Rules.{rules}
+use Rattle.capture_file.proofs.WriteLaws.{Ahead}
 use Rattle.capture_file.proofs.file.put_samples.Given as goal
 
 abbrev pub invariant-loop-i : goal.invariant-loop-i

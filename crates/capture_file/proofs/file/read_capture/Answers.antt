@@ -5,7 +5,6 @@ use native.Mathlib.Omega.{arith}
 use Rattle.capture_file.specs.FileSteps.{head_answer}
 use Rattle.capture_file.proofs.HeadLaws.{head_few}
 use Rattle.capture_file.proofs.CallLaws.{wrong-slots, no-head, no-samples, all-samples}
-use borrow.Author.Rules.{rules}
 use Rattle.capture_file.proofs.file.read_capture.Goals as goal
 
 pub returns-then-samples-ne-FILE_SAMPLES : goal.returns-then-samples-ne-FILE_SAMPLES
@@ -38,7 +37,7 @@ fill_samples-requires c =
 
 pub returns : goal.returns
 returns c =
-        let a = c.args in
+    let a = c.args in
     let e = sym c.read_head.ensures ∙ ap (head_answer a.file.now) c.in-Head.is in
     let there = sym c.are_samples.ensures ∙ c.if-not-are_samples.false in
     let all = all-samples a.file.now a.samples.now c.if-samples-ne-FILE_SAMPLES.false _ e there c.fill_samples.ensures in

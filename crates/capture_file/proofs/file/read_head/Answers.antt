@@ -1,10 +1,9 @@
 -- `capture_file::file::read_head` meets its contract: each return is a case of the three numbers.
 -- Assumes nothing.
-use mathlib.Core.Path.{◌≡◌, sym, ap, ◌∙◌}
+use mathlib.Core.Path.{sym, ap, ◌∙◌}
 use Prim.Native.Nat.{◌≤◌, ◌<◌}
 use native.Mathlib.Omega.{arith}
 use lib.ListN.{drop}
-use borrow.Author.Rules.{rules}
 use Rattle.capture_file.specs.Groups.{headed}
 use Rattle.capture_file.specs.File.{file_samples}
 use Rattle.capture_file.specs.FileSteps.{number_answer}

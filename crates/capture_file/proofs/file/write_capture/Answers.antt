@@ -2,7 +2,6 @@
 -- that are left come from the place reached on.
 -- Assumes nothing.
 use mathlib.Core.Path.{◌≡◌, refl, ap, ◌∙◌}
-use mathlib.Core.Bool.{Bool}
 use mathlib.Core.List.{List, ◌++◌}
 use Prim.Native.Nat.{ℕ, ◌+◌, ◌≤◌}
 use native.Mathlib.Omega.{arith}
@@ -15,7 +14,6 @@ use Rattle.capture_file.specs.FileSteps.{put}
 use Rattle.capture_file.proofs.ReadBack.{file-most}
 use Rattle.capture_file.proofs.WriteLaws.{Ahead, ahead-fits, ahead_more}
 use Rattle.capture_file.proofs.CallLaws.{too_many, wrong-buffer, all-written}
-use borrow.Author.Rules.{rules}
 use Rattle.capture_file.proofs.file.write_capture.Goals as goal
 
 -- ---- what is left of the bytes of a capture's file, before and after each call, in a buffer that was `out` at the start

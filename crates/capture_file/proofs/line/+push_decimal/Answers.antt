@@ -3,7 +3,6 @@
 use mathlib.Core.Path.{ap}
 use Prim.Native.Nat.{◌/◌, ◌%◌}
 use native.Mathlib.Omega.{arith}
-use borrow.Author.Rules.{rules}
 use Rattle.capture_file.specs.Line.{digit, decimal}
 use Rattle.capture_file.specs.Steps.{written}
 use Rattle.capture_file.proofs.LineLaws.{written_one}

@@ -1,7 +1,6 @@
 -- `capture_file::line::push_hexadecimal` writes the digits of the number, the lowest after those of its sixteenth part.
 -- Assumes nothing.
 use Prim.Native.Nat.{◌-◌, ◌/◌, ◌%◌}
-use borrow.Author.Rules.{rules}
 use Rattle.capture_file.specs.Line.{digit, hexadecimal}
 use Rattle.capture_file.proofs.LineLaws.{written_one}
 use Rattle.capture_file.proofs.DigitLaws.{hexadecimal-more}

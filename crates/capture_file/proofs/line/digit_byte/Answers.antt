@@ -1,6 +1,5 @@
 -- `capture_file::line::digit_byte` is the digit of a value below sixteen.
 -- Assumes nothing.
-use borrow.Author.Rules.{rules}
 use borrow.Author.Tests.{lt-ltb, le-ltb}
 use Rattle.capture_file.proofs.DigitLaws.{digit-made}
 use Rattle.capture_file.proofs.line.digit_byte.Goals as goal

@@ -1,7 +1,6 @@
 -- `capture_file::line::line_of` is the line of what the capture's word reads as.
 -- Assumes nothing.
 use mathlib.Core.Path.{sym, ap, ◌∙◌}
-use borrow.Author.Rules.{rules}
 use Rattle.dshot_reply.specs.Answers.{transitions_answer}
 use Rattle.dshot_reply_spec.specs.Answer.{refused}
 use Rattle.capture_file.specs.Line.{listed_word, listed_of, line_of, padded}

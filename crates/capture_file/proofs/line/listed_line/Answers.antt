@@ -2,7 +2,6 @@
 -- Assumes nothing.
 use mathlib.Core.Path.{◌≡◌, sym, ◌∙◌}
 use mathlib.Core.List.{[]}
-use borrow.Author.Rules.{rules}
 use Rattle.dshot_reply_spec.specs.Answer.{given}
 use Rattle.dshot_reply.specs.Answers.{reading}
 use Rattle.dshot_reply_spec.specs.Kind.{kind_number, reading_number}

@@ -1,6 +1,5 @@
 -- `capture_file::line::push` puts one byte at the end of a line, unless it is full.
 -- Assumes nothing.
-use borrow.Author.Rules.{rules}
 use borrow.Author.Tests.{lt-ltb, le-ltb}
 use Rattle.capture_file.specs.Steps.{pushed}
 use Rattle.capture_file.proofs.line.push.Goals as goal

@@ -3,7 +3,6 @@
 use Prim.Native.Nat.{◌≤◌}
 use native.Mathlib.Omega.{arith}
 use lib.ListN.{get_or-eq_default}
-use borrow.Author.Rules.{rules}
 use Rattle.capture_file.specs.Line.{kind_texts, kind_text}
 use Rattle.capture_file.proofs.line.push_kind.Goals as goal
 

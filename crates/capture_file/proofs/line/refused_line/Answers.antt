@@ -3,7 +3,6 @@
 use mathlib.Core.Path.{◌≡◌, sym, ◌∙◌}
 use mathlib.Core.List.{[], ◌++◌}
 use Prim.Native.Nat.{ℕ}
-use borrow.Author.Rules.{rules}
 use Rattle.dshot_reply_spec.specs.Answer.{refused}
 use Rattle.capture_file.specs.Line.{ascii, decimal, line_of, padded}
 use Rattle.capture_file.specs.Steps.{pushed, written}

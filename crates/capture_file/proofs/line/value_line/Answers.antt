@@ -1,7 +1,6 @@
 -- `capture_file::line::value_line` is the line of what the value reads as.
 -- Assumes nothing.
 use mathlib.Core.Path.{sym, ap, ◌∙◌}
-use borrow.Author.Rules.{rules}
 use Rattle.dshot_reply.specs.Answers.{reply_answer}
 use Rattle.dshot_reply_spec.specs.Answer.{given, refused}
 use Rattle.capture_file.specs.Line.{listed_value, line_of, padded}

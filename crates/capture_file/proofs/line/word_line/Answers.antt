@@ -1,7 +1,6 @@
 -- `capture_file::line::word_line` is the line of what the word's value reads as.
 -- Assumes nothing.
 use mathlib.Core.Path.{sym, ap, ◌∙◌}
-use borrow.Author.Rules.{rules}
 use Rattle.dshot_reply.specs.Answers.{decoded_answer}
 use Rattle.dshot_reply_spec.specs.Answer.{refused}
 use Rattle.capture_file.specs.Line.{listed_value, listed_word, line_of, padded}

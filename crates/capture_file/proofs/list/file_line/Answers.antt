@@ -3,7 +3,6 @@
 use mathlib.Core.Path.{refl, sym, ap, ◌∙◌}
 use native.Mathlib.Nat.{sub-zero}
 use native.Mathlib.Omega.{arith}
-use borrow.Author.Rules.{rules}
 use Rattle.capture_file.specs.FileAnswers.{read_answer}
 use Rattle.capture_file.proofs.ListLaws.{refused-file, count_fits, listed-file}
 use Rattle.capture_file.proofs.list.file_line.Goals as goal

@@ -6,7 +6,6 @@ use native.Mathlib.Omega.{arith}
 use lib.ListN.{length, length-set}
 use Rattle.capture_file.proofs.NumberLaws.{groups-one, groups-two, groups-three, groups-count}
 use Rattle.capture_file.proofs.WriteLaws.{put_one, put_two, put_three, put_as}
-use borrow.Author.Rules.{rules}
 use Rattle.capture_file.proofs.number.put_number.Goals as goal
 
 pub bounds-file-at : goal.bounds-file-at

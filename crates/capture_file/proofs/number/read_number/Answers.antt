@@ -5,7 +5,6 @@ use mathlib.Core.List.{List, ◌∷◌}
 use Prim.Native.Nat.{ℕ, ◌+◌, ◌<◌}
 use native.Mathlib.Omega.{arith}
 use lib.ListN.{length, drop, get_or, drop_of_length-le}
-use borrow.Author.Rules.{rules}
 use Rattle.capture_file.specs.Groups.{read_number}
 use Rattle.capture_file.proofs.ReadLaws.{from-here, some-here, zero-here}
 use Rattle.capture_file.proofs.ReadLaws.{no-group, one-group, zero-second, two-groups, zero-third, large-third, three-groups}
