@@ -1,4 +1,4 @@
--- `capture_file::file::are_samples` says whether as many numbers stand there, and nothing after them. The loop's invariant: it is so just where
+-- `capture_file::file::are_samples`: the answer is whether the numbers that are left stand from the place reached on, with nothing after them.
 use mathlib.Core.Path.{◌≡◌}
 use lib.ListN.{drop}
 use Rattle.capture_file.specs.Groups.{read_all}

@@ -1,4 +1,4 @@
--- `capture_file::file::fill_samples` fills the first slots with the numbers that stand there. The loop's invariant: with the numbers that are
+-- `capture_file::file::fill_samples`: with the numbers that are left, the slots are what they are to be.
 use Prim.Native.Nat.{◌-◌}
 use Rattle.capture_file.proofs.SampleLaws.{Filling}
 use Rattle.capture_file.proofs.file.fill_samples.Given as goal

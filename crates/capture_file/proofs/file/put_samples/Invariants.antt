@@ -1,4 +1,4 @@
--- `capture_file::file::put_samples` puts the groups of all samples over the bytes from a place on. The loop's invariant: with the groups of the
+-- `capture_file::file::put_samples`: with the groups of the samples that are left, the bytes are what they are to be.
 use mathlib.Core.Path.{◌≡◌}
 use Prim.Native.Nat.{◌+◌, ◌-◌}
 use lib.ListN.{length, drop}
