@@ -9,4 +9,4 @@ pub returns : goal.returns
 unfolding lease_expired
 returns c =
     let a = c.args in
-    ap (ltb a.duration_ms) (wrapped (2 ^ 64) a.now_ms a.started_ms c.wrapping_sub_u64.result (search rules) (search rules) c.wrapping_sub_u64.ensures)
+    ap (ltb a.duration_ms) (wrapped (2 ^ 64) a.now_ms a.started_ms c.wrapping_sub_u64.result (search rules) (search rules) c.wrapping_sub_u64.ensures.value)

@@ -7,11 +7,8 @@ use Rattle.dshot_spec.proofs.Tabulated.{Filled, filled_none, filled_more, filled
 use Rattle.dshot_spec.specs.Sequence.{Sequence, is_set, sequence_of, encoded_sequence, first_duty}
 use Rattle.dshot_spec.specs.Tabulate.{tabulate}
 use Rattle.dshot.specs.Answers.{timing_of}
+use Rattle.dshot.proofs.encode_compare_sequence.Invariants.{slot}
 use Rattle.dshot.proofs.encode_compare_sequence.Goals as goal
-
--- slot i, by the word and the two duties
-abbrev slot : ℕ → ℕ → ℕ → ℕ → ℕ
-slot w low high i = pick (ltb i 15) (pick (is_set w (14 - i)) high low) 0
 
 pub returns-then-dma_output-ne-COMPARE_DMA_SLOTS : goal.returns-then-dma_output-ne-COMPARE_DMA_SLOTS
 unfolding encoded_sequence

@@ -8,6 +8,10 @@ use Rattle.dshot_spec.specs.Tabulate.{tabulate}
 use Rattle.dshot.specs.Answers.{timing_of}
 use Rattle.dshot.proofs.encode_compare_sequence.Given as goal
 
+-- slot i, by the word and the two duties
+abbrev pub slot : ℕ → ℕ → ℕ → ℕ → ℕ
+slot w low high i = pick (ltb i 15) (pick (is_set w (14 - i)) high low) 0
+
 abbrev pub invariant-loop-index : goal.invariant-loop-index
 invariant-loop-index l = Filled 16 (slot l.packet.0 l.zero l.one) l.initial.dma_output l.index l.dma_output
 

@@ -14,8 +14,8 @@ pub loop-index-preserved : goal.loop-index-preserved
 loop-index-preserved c =
     let a = c.args in
     let l = c.loop-index in
-    let k : c.of_kind.result.0 ≡ packet_word (kind_of a.kind) (get_or a.t2 l.index 0) (asks (lane_of a.telemetry_lane) l.index) =
-    c.of_kind.ensures ∙ ap (packet_word (kind_of a.kind) (get_or a.t2 l.index 0)) c.is.ensures in
+    let k : c.of_kind.result.0 ≡ packet_word (kind_of a.kind) (get_or a.values l.index 0) (asks (lane_of a.telemetry_lane) l.index) =
+    c.of_kind.ensures ∙ ap (packet_word (kind_of a.kind) (get_or a.values l.index 0)) c.is.ensures in
     rw (words-set l.packets l.index c.of_kind.result) (filled_more l.invariant c.loop-index-test.true k)
 
 pub returns : goal.returns

@@ -16,6 +16,6 @@ pub returns : goal.returns
 unfolding next_value
 returns c =
     let s = c.args.self in
-    let two : length s.commands-1 ≡ 2 = search rules in
+    let two : length s.commands ≡ 2 = search rules in
     let l : s.index < 2 = omega arith in
-    simp (two, lt-ltb s.index 2 l, c.chosen-command.ensures ∙ by_index s.commands-1 s.index l, c.counted.ensures)
+    simp (two, lt-ltb s.index 2 l, c.chosen-command.ensures ∙ by_index s.commands s.index l, c.counted.ensures)

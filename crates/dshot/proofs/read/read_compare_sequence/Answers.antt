@@ -43,7 +43,7 @@ returns-in-Word c =
     let a = tested.args in
     let t = timing_of a.timing in
     let s : Sequence = record { first = a.first; slots = a.dma_output.now } in
-    let e : given c.word-1.given.0.0 ≡ word_from t 0 (a.first ∷ take 15 a.dma_output.now) =
+    let e : given c.in-Word.word ≡ word_from t 0 (a.first ∷ take 15 a.dma_output.now) =
     sym (ap word_answer c.in-Word.is) ∙ c.read_word.ensures in
     c.read_packet.ensures ∙ ap (λ (x : Answer ℕ). and_then x read_packet) e
     ∙ sym (sequence-tested t s tested.if-dma_output-ne-COMPARE_DMA_SLOTS.false tested.if-timing.false tested.if-dma_output-last-ne0.false)
