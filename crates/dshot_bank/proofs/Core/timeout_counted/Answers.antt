@@ -1,0 +1,12 @@
+-- `dshot_bank::Core::timeout_counted` meets its contract.
+-- Assumes nothing.
+use Rattle.std.proofs.Common.{ap, rules}
+use Rattle.dshot_bank_spec.specs.State as Spec
+use Rattle.dshot_bank_spec.specs.With.{with_stats}
+use Rattle.dshot_bank.specs.States.{core_of}
+use Rattle.dshot_bank.proofs.Core.timeout_counted.Goals as goal
+
+pub returns : goal.returns
+returns c =
+    let k = core_of c.args.self in
+    ap (λ (s : Spec.Stats). with_stats s k) c.count_timeout-stats.ensures
