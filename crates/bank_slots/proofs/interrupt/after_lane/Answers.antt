@@ -1,0 +1,48 @@
+-- `bank_slots::interrupt::after_lane` meets its contract: what follows a lane's completion: each return is a case of the tests.
+-- Assumes nothing.
+use Rattle.std.proofs.Common.{sym, refl, ◌∙◌, rules}
+use Rattle.bank_slots_spec.proofs.InterruptMoves.{after-some, after-opened, after-not-opened, after-closed, after-not-closed, after-sent}
+use Rattle.bank_slots.proofs.interrupt.after_lane.Goals as goal
+
+pub returns-then-word_at-ne-ALL_MOTORS_COMPLETE : goal.returns-then-word_at-ne-ALL_MOTORS_COMPLETE
+returns-then-word_at-ne-ALL_MOTORS_COMPLETE c =
+    let a = c.args in
+    after-some a.lane a.turned a.turned_back (λ e. c.if-word_at-ne-ALL_MOTORS_COMPLETE.true (c.word_at.ensures ∙ e)) c.tell_paused.ensures
+
+pub returns-then-not-turned : goal.returns-then-not-turned
+returns-then-not-turned c =
+    let a = c.args in
+    let all = sym c.word_at.ensures ∙ c.if-word_at-ne-ALL_MOTORS_COMPLETE.false in
+    let opens = sym c.opens_window.ensures ∙ c.if-opens_window.true in
+    after-not-opened a.lane a.turned a.turned_back all opens c.if-not-turned.true-raw (c.latched_turning.ensures.handles refl)
+
+pub returns-then-opens_window : goal.returns-then-opens_window
+returns-then-opens_window c =
+    let a = c.args in
+    let all = sym c.word_at.ensures ∙ c.if-word_at-ne-ALL_MOTORS_COMPLETE.false in
+    let opens = sym c.opens_window.ensures ∙ c.if-opens_window.true in
+    after-opened a.lane a.turned a.turned_back all opens c.if-not-turned.false-raw c.window_opened.ensures c.tell_order.ensures
+
+pub returns-then-not-turned_back : goal.returns-then-not-turned_back
+returns-then-not-turned_back c =
+    let a = c.args in
+    let all = sym c.word_at.ensures ∙ c.if-word_at-ne-ALL_MOTORS_COMPLETE.false in
+    let opens = sym c.opens_window.ensures ∙ c.if-opens_window.false in
+    let receiving = sym c.flag.ensures ∙ c.if-flag.true in
+    after-not-closed a.lane a.turned a.turned_back all opens receiving c.if-not-turned_back.true-raw (c.latched_turning-then-not-turned_back.ensures.handles_2 refl)
+
+pub returns-then-flag : goal.returns-then-flag
+returns-then-flag c =
+    let a = c.args in
+    let all = sym c.word_at.ensures ∙ c.if-word_at-ne-ALL_MOTORS_COMPLETE.false in
+    let opens = sym c.opens_window.ensures ∙ c.if-opens_window.false in
+    let receiving = sym c.flag.ensures ∙ c.if-flag.true in
+    after-closed a.lane a.turned a.turned_back all opens receiving c.if-not-turned_back.false-raw c.window_closed.ensures c.tell_order-then-flag.ensures
+
+pub returns : goal.returns
+returns c =
+    let a = c.args in
+    let all = sym c.word_at.ensures ∙ c.if-word_at-ne-ALL_MOTORS_COMPLETE.false in
+    let opens = sym c.opens_window.ensures ∙ c.if-opens_window.false in
+    let receiving = sym c.flag.ensures ∙ c.if-flag.false in
+    after-sent a.lane a.turned a.turned_back all opens receiving c.frame_done.ensures c.tell_order-2.ensures

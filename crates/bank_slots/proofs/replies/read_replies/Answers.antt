@@ -1,0 +1,17 @@
+-- `bank_slots::replies::read_replies` meets its contract: if windows wait, they are read.
+-- Assumes nothing.
+use Rattle.std.proofs.Common.{sym, ◌∙◌, rules}
+use borrow.Author.Tests.{not-true, not-false}
+use Rattle.bank_slots_spec.proofs.ReplyMoves.{none-waits, windows-read}
+use Rattle.bank_slots.proofs.replies.read_replies.Goals as goal
+
+pub returns-then-not-flag : goal.returns-then-not-flag
+returns-then-not-flag c =
+    let a = c.args in
+    none-waits a.lanes.now a.captures.now a.state.now (sym c.flag.ensures ∙ not-true _ c.if-not-flag.true-raw)
+
+pub returns : goal.returns
+returns c =
+    let a = c in
+    let waits = sym c.flag.ensures ∙ not-false _ c.if-not-flag.false-raw in
+    windows-read a.args.lanes.now a.args.captures.now a.args.state.now (c.state-1.given ∙ a.requires.0) waits c.decode_replies.ensures

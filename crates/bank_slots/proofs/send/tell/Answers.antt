@@ -1,0 +1,60 @@
+-- `bank_slots::send::tell` meets its contract: fifteen slots filled one after another.
+-- Assumes nothing.
+use Rattle.std.proofs.Common.{◌∷◌, ◌++◌, sym, ◌∙◌, arith, length-set, rules}
+use Rattle.dshot_spec.specs.Tabulate.{tabulate}
+use Rattle.bank_slots_spec.specs.Memory.{at}
+use Rattle.bank_slots_spec.proofs.FillLaws.{filled, tabulated}
+use Rattle.bank_slots.proofs.send.tell.Goals as goal
+
+pub bounds-out-1 : goal.bounds-out-1
+bounds-out-1 c = simp length-set (omega arith)
+
+pub bounds-out-2 : goal.bounds-out-2
+bounds-out-2 c = simp length-set (omega arith)
+
+pub bounds-out-3 : goal.bounds-out-3
+bounds-out-3 c = simp length-set (omega arith)
+
+pub bounds-out-4 : goal.bounds-out-4
+bounds-out-4 c = simp length-set (omega arith)
+
+pub bounds-out-5 : goal.bounds-out-5
+bounds-out-5 c = simp length-set (omega arith)
+
+pub bounds-out-6 : goal.bounds-out-6
+bounds-out-6 c = simp length-set (omega arith)
+
+pub bounds-out-7 : goal.bounds-out-7
+bounds-out-7 c = simp length-set (omega arith)
+
+pub bounds-out-8 : goal.bounds-out-8
+bounds-out-8 c = simp length-set (omega arith)
+
+pub bounds-out-9 : goal.bounds-out-9
+bounds-out-9 c = simp length-set (omega arith)
+
+pub bounds-out-10 : goal.bounds-out-10
+bounds-out-10 c = simp length-set (omega arith)
+
+pub bounds-out-11 : goal.bounds-out-11
+bounds-out-11 c = simp length-set (omega arith)
+
+pub bounds-out-12 : goal.bounds-out-12
+bounds-out-12 c = simp length-set (omega arith)
+
+pub bounds-out-13 : goal.bounds-out-13
+bounds-out-13 c = simp length-set (omega arith)
+
+pub bounds-out-14 : goal.bounds-out-14
+bounds-out-14 c = simp length-set (omega arith)
+
+pub shape_of-out : goal.shape_of-out
+shape_of-out c = simp length-set
+
+pub returns : goal.returns
+unfolding tabulate
+returns c = let a = c.args in
+    let codes = sym (tabulated 9 a.orders c.well_formed.1.1.1.0.1.0.1) in
+    let duties = sym (tabulated 4 a.duties c.well_formed.1.1.1.1.0.1.0.1) in
+    filled (a.event ∷ a.count ∷ (tabulate 9 (at a.orders) ++ tabulate 4 (at a.duties))) a.out.now c.requires
+    ∙ (λ j. a.event ∷ a.count ∷ (codes j ++ duties j))

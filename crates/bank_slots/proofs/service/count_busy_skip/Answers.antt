@@ -1,0 +1,11 @@
+-- `bank_slots::service::count_busy_skip` meets its contract: one more in the count of busy services.
+-- Assumes nothing.
+use Rattle.std.proofs.Common.{sym, rules}
+use Rattle.bank_slots_spec.proofs.MoveLaws.{moves-at}
+use Rattle.bank_slots_spec.proofs.ServiceMoves.{busy-skip-counted}
+use Rattle.bank_slots.proofs.service.count_busy_skip.Goals as goal
+
+pub returns : goal.returns
+returns c =
+    let a = c in
+    moves-at (sym c.bump.ensures) (busy-skip-counted a.args.state.now a.requires)
