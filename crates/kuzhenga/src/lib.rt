@@ -11,8 +11,6 @@ pub mod bank;
 pub mod capture;
 // Throttles, command runs and leases.
 pub mod command;
-// Value change dumps.
-pub mod dump;
 // The readers of packets and sequences.
 pub mod frame_read;
 // Packets.

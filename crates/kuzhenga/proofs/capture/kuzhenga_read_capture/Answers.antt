@@ -1,0 +1,65 @@
+-- `kuzhenga::capture::kuzhenga_read_capture` answers as `read_into`, with the samples in the first slots and the rest in three.
+-- Assumes nothing.
+use mathlib.Core.Path.{sym, ap, ◌∙◌}
+use mathlib.Core.List.{[], ◌∷◌}
+use Prim.Native.Nat.{ℕ}
+use native.Mathlib.Omega.{arith}
+use lib.ListN.{length-set}
+use Rattle.capture_file.proofs.AnswerLaws.{then-refused}
+use Rattle.capture_file.proofs.ListLaws.{capture-of, count_fits}
+use Rattle.capture_file.specs.File.{slots_of, read_into}
+use Rattle.capture_file.specs.FileAnswers.{read_answer}
+use Rattle.kuzhenga.specs.CaptureSlots.{capture_slots}
+use Rattle.kuzhenga.proofs.SlotLaws.{all_set}
+use Rattle.kuzhenga.proofs.CaptureLaws.{wrong-slots, refused-on, given-on, told-slots}
+use borrow.Author.Rules.{rules}
+use Rattle.kuzhenga.proofs.capture.kuzhenga_read_capture.Goals as goal
+
+pub returns-then-about-ne3 : goal.returns-then-about-ne3
+returns-then-about-ne3 c =
+    let a = c.args in
+    let all = wrong-slots (slots_of a.samples.now) capture_slots a.samples.now a.about.now 3 (read_into a.file.now a.samples.now) c.if-about-ne3.true in record { value = all.0; samples_after = all.1.0; about_after = all.1.1 }
+
+pub overflow_cast-about : goal.overflow_cast-about
+overflow_cast-about c =
+    let read = c in
+    let e = sym (ap read_answer c.in-Capture.is) ∙ read.read_capture.ensures.0 in
+    omega (arith, count_fits _ _ _ e)
+
+pub bounds-about-1 : goal.bounds-about-1
+bounds-about-1 c = simp length-set (omega arith)
+
+pub bounds-about-2 : goal.bounds-about-2
+bounds-about-2 c = simp length-set (omega arith)
+
+pub returns-in-Capture : goal.returns-in-Capture
+returns-in-Capture c =
+    let found = c in
+    let read = found in
+    let a = read.args in
+    let h = read.if-about-ne3.false in
+    let e = sym (ap read_answer found.in-Capture.is) ∙ read.read_capture.ensures.0 in
+    let is = capture-of a.file.now a.samples.now _ e in
+    let count = found.in-Capture.count in
+    let mask = found.count-1.given.0.1.0 in
+    let all = given-on (slots_of a.samples.now) capture_slots a.samples.now a.about.now 3 (read_into a.file.now a.samples.now)
+    h read.read_capture.ensures.1 is.1
+    (all_set a.about.now (count ∷ mask ∷ c.flag_of.result ∷ []) h
+    ∙ ap (λ (n : ℕ). count ∷ mask ∷ n ∷ []) c.flag_of.ensures
+    ∙ told-slots is.0 _ is.2) in record { value = all.0; samples_after = all.1.0; about_after = all.1.1 }
+
+pub returns-in-NotACapture : goal.returns-in-NotACapture
+returns-in-NotACapture c =
+    let read = c in
+    let a = read.args in
+    let e = sym (ap read_answer c.in-NotACapture.is) ∙ read.read_capture.ensures.0 in
+    let all = refused-on (slots_of a.samples.now) capture_slots a.samples.now a.about.now 3 (read_into a.file.now a.samples.now)
+    read.if-about-ne3.false read.read_capture.ensures.1 (then-refused _ _ (sym e)) in record { value = all.0; samples_after = all.1.0; about_after = all.1.1 }
+
+pub returns-in-WrongLength : goal.returns-in-WrongLength
+returns-in-WrongLength c =
+    let read = c in
+    let a = read.args in
+    let e = sym (ap read_answer c.in-WrongLength.is) ∙ read.read_capture.ensures.0 in
+    let all = refused-on (slots_of a.samples.now) capture_slots a.samples.now a.about.now 3 (read_into a.file.now a.samples.now)
+    read.if-about-ne3.false read.read_capture.ensures.1 (then-refused _ _ (sym e)) in record { value = all.0; samples_after = all.1.0; about_after = all.1.1 }

@@ -1,0 +1,20 @@
+-- `kuzhenga::command::put_command` meets its contract.
+-- Assumes nothing.
+use mathlib.Core.Path.{ap, sym, ◌∙◌}
+use mathlib.Core.List.{[], ◌∷◌}
+use Rattle.dshot.specs.Answers.{command_of}
+use Rattle.dshot.specs.declared.CommandValue.{CommandValue}
+use Rattle.kuzhenga.specs.FrameSlots.{command_slots}
+use Rattle.kuzhenga.proofs.SlotLaws.{all_set}
+use borrow.Author.Rules.{rules}
+use Rattle.kuzhenga.proofs.command.put_command.Goals as goal
+
+pub returns-in-None : goal.returns-in-None
+returns-in-None c =
+    all_set c.args.out.now (0 ∷ 0 ∷ []) c.requires
+    ∙ sym (ap (λ (v : CommandValue). command_slots (command_of v)) c.in-None.is)
+
+pub returns-in-Value : goal.returns-in-Value
+returns-in-Value c =
+    all_set c.args.out.now (1 ∷ c.in-Value.command ∷ []) c.requires
+    ∙ sym (ap (λ (v : CommandValue). command_slots (command_of v)) c.in-Value.is)

@@ -1,0 +1,23 @@
+-- `kuzhenga::frame_read::put_frame` meets its contract.
+-- Assumes nothing.
+use mathlib.Core.Path.{ap, ◌∙◌}
+use mathlib.Core.List.{[], ◌∷◌}
+use Rattle.dshot.specs.Answers.{frame_answer}
+use Rattle.kuzhenga.specs.FrameSlots.{frame_slots}
+use Rattle.dshot_reply_spec.proofs.Answered.{given_so, refused-so}
+use Rattle.kuzhenga.proofs.SlotLaws.{all_set}
+use borrow.Author.Rules.{rules}
+use Rattle.kuzhenga.proofs.frame_read.put_frame.Goals as goal
+
+pub returns-in-Frame : goal.returns-in-Frame
+returns-in-Frame c =
+    let a = c.args in
+    let v = c.in-Frame.answer in
+    let all = given_so frame_slots a.out.now (ap frame_answer c.in-Frame.is)
+    (all_set a.out.now (v ∷ c.flag_of.result ∷ c.kind_of.result ∷ []) c.requires
+    ∙ (λ j. v ∷ c.flag_of.ensures j ∷ c.kind_of.ensures j ∷ [])) in record { value = all.0; out_after = all.1 }
+
+pub returns-in-Refused : goal.returns-in-Refused
+returns-in-Refused c =
+    let e = refused-so frame_slots c.args.out.now (ap frame_answer c.in-Refused.is) in
+    record { value = c.number.ensures ∙ e.0; out_after = e.1 }

@@ -1,0 +1,25 @@
+-- `kuzhenga::reply::kuzhenga_period_value` answers as `period_value`, with the value in its one slot; lent another number of slots, it answers 13.
+-- Assumes nothing.
+use mathlib.Core.Path.{refl, sym, ap, ◌∙◌}
+use borrow.Author.Rules.{rules}
+use Rattle.dshot_reply.specs.Answers.{period_answer}
+use Rattle.kuzhenga.specs.Slots.{one}
+use Rattle.kuzhenga.proofs.SlotLaws.{wrong-length, done, passed_on}
+use Rattle.kuzhenga.proofs.reply.kuzhenga_period_value.Goals as goal
+
+pub returns-then-value-ne1 : goal.returns-then-value-ne1
+returns-then-value-ne1 c =
+    let all = wrong-length one _ _ c.if-value-ne1.true in record { value = all.0; value_after = all.1 }
+
+pub returns-in-Value : goal.returns-in-Value
+returns-in-Value c =
+    let all = done one _ c.if-value-ne1.false
+    (sym (ap period_answer c.in-Value.is) ∙ c.period_value.ensures)
+    refl in record { value = all.0; value_after = all.1 }
+
+pub returns-in-OutOfRange : goal.returns-in-OutOfRange
+returns-in-OutOfRange c =
+    let all = passed_on one _ c.if-value-ne1.false
+    (sym (ap period_answer c.in-OutOfRange.is) ∙ c.period_value.ensures)
+    refl
+    refl in record { value = all.0; value_after = all.1 }
