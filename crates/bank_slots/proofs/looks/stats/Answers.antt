@@ -21,4 +21,4 @@ returns c =
     let t = p in
     let k = t in
     let a = k.args in
-    let all = stats-told a.bank.now a.out.now t.if-bank-ne-SLOTS.false (λ i. omega (arith, k.shared_slice_known-1.given i)) t.if-out-ne-STATS_SLOTS.false p.copy.ensures in record { value = all.0; out_after = all.1 }
+    let all = stats-told a.bank.now a.out.now t.if-bank-ne-SLOTS.false (λ i. omega (arith, k.type_inv.bank i)) t.if-out-ne-STATS_SLOTS.false p.copy.ensures in record { value = all.0; out_after = all.1 }

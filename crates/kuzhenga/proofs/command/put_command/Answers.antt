@@ -16,5 +16,5 @@ returns-in-None c =
 
 pub returns-in-Value : goal.returns-in-Value
 returns-in-Value c =
-    all_set c.args.out.now (1 ∷ c.in-Value.command ∷ []) c.requires
+    all_set c.args.out.now (1 ∷ c.in-Value.sent ∷ []) c.requires
     ∙ sym (ap (λ (v : CommandValue). command_slots (command_of v)) c.in-Value.is)

@@ -1,13 +1,13 @@
 -- `kuzhenga::frame_read::kuzhenga_read_compare_sequence` meets its contract.
 -- Assumes nothing.
-use mathlib.Core.Path.{sym, ap, ◌∙◌}
+use mathlib.Core.Path.{◌≡◌, sym, ap, ◌∙◌}
 use Prim.Native.Nat.{◌<◌}
 use native.Mathlib.Omega.{arith}
 use lib.ListN.{get_or}
 use Rattle.dshot_reply_spec.specs.Answer.{refusal_number, filled}
 use Rattle.dshot_spec.specs.Sequence.{read_sequence}
 use Rattle.dshot_spec.specs.Timing.{Timing}
-use Rattle.kuzhenga.specs.FrameSlots.{frame_slots}
+use Rattle.kuzhenga.specs.FrameSlots.{frame_slots, timing_at}
 use Rattle.dshot_reply_spec.proofs.Answered.{refused-so}
 use Rattle.kuzhenga.proofs.SlotLaws.{asked-not, asked-so}
 use Rattle.kuzhenga.proofs.FrameLaws.{not-sixteen, neither}
@@ -29,10 +29,10 @@ returns-then-dma_output-ne16 c =
 pub returns-then-first-gt65535 : goal.returns-then-first-gt65535
 returns-then-first-gt65535 c =
     let a = c.args in
-    let one : get_or a.timing.now 2 0 < 65536 = omega (arith, c.shared_slice_known-2-1.given 2) in
-    let zero : get_or a.timing.now 1 0 < 65536 = omega (arith, c.shared_slice_known-2-1.given 1) in
+    let one : get_or a.timing.now 2 0 < 65536 = omega (arith, c.type_inv.timing 2) in
+    let zero : get_or a.timing.now 1 0 < 65536 = omega (arith, c.type_inv.timing 1) in
     let all = refused-so frame_slots _ (asked-so a.timing.now 4 _ c.if-timing-ne4.false ∙ asked-so a.frame.now 3 _ c.if-frame-ne3.false
-    ∙ neither _ _ c.if-dma_output-ne16.false (λ e. omega arith) (λ e. omega arith)) in record { value = all.0; frame_after = all.1 }
+    ∙ neither (timing_at a.timing.now) (record { first = a.first; slots = a.dma_output.now }) c.if-dma_output-ne16.false (λ (e : a.first ≡ get_or a.timing.now 2 0). omega arith) (λ (e : a.first ≡ get_or a.timing.now 1 0). omega arith)) in record { value = all.0; frame_after = all.1 }
 
 pub returns : goal.returns
 returns c =

@@ -12,7 +12,7 @@ use Rattle.kuzhenga.proofs.frame_read.put_frame.Goals as goal
 pub returns-in-Frame : goal.returns-in-Frame
 returns-in-Frame c =
     let a = c.args in
-    let v = c.in-Frame.answer in
+    let v = c.in-Frame.value in
     let all = given_so frame_slots a.out.now (ap frame_answer c.in-Frame.is)
     (all_set a.out.now (v ∷ c.flag_of.result ∷ c.kind_of.result ∷ []) c.requires
     ∙ (λ j. v ∷ c.flag_of.ensures j ∷ c.kind_of.ensures j ∷ [])) in record { value = all.0; out_after = all.1 }

@@ -6,8 +6,5 @@ use Rattle.dshot_spec.specs.Packet.{inverted}
 use borrow.Author.Rules.{rules}
 use Rattle.kuzhenga.proofs.packet.kuzhenga_packet_from_value_bidirectional.Goals as goal
 
-  statement,
-}
-
 pub returns : goal.returns
 returns c = c.from_value_bidirectional-packet.ensures ∙ sym (packet-low inverted c.args.value _)
