@@ -4,100 +4,146 @@
 //
 // Without FILE it reads standard input. If that is a terminal, it first says on standard error what it waits for.
 //
-// If there is more than one argument, it says so on standard error and writes no line. It does the same if the file cannot be opened or read. Its
-// exit status is always 0, because a program in Rattle cannot set one. So a script tests whether standard output is empty.
+// If there is more than one argument, it says so on standard error and writes no line. It does the same if the file cannot be opened or read, and then
+// says why, as if the line cannot be written. Its exit status is always 0. So a script tests whether standard output is empty.
 //
 // If an input is longer than the buffer, it is cut at the buffer's end. It is refused with 17 (not a capture), as the whole input would be. The longest
 // file that holds a capture has 12294 bytes, and the buffer has 65536.
-ghost use Rattle.io.specs.Counts.{IsPrefixLen};
+#![tactic(auto)]
+
+ghost use Rattle.std.specs.Prelude.{◌≡◌, ◌≤◌, length, take};
 
 use capture_file::list::file_line;
-use libc::{STDERR_FILENO, STDIN_FILENO, STDOUT_FILENO};
+use std::env::{Env, FillError};
+use std::fs::File;
+use std::io::{Error, IsTerminal, Read};
+use std::str;
 
-fn main() {
-    let count = os::arg_count();
-    if count > 2 {
-        io::write_all(STDERR_FILENO, b"usage: list_capture [FILE]\n");
-    } else if count == 2 {
-        list_argument();
-    } else {
-        list_standard_input();
+const MOST_BYTES: usize = 65536;
+
+// The most bytes of a name that are taken.
+const MOST_NAME: usize = 4096;
+
+fn main(rt: HostRuntime) {
+    let mut path = [0u8; MOST_NAME];
+    if is_given(&rt, 2) {
+        let _ = rt.eprintln("usage: list_capture [FILE]");
+        return;
+    }
+    match rt.arg(1, &mut path) {
+        Ok(length) => list_argument(&rt, &path[..length]),
+        Err(FillError::TooLong) => say(&rt, "FILE", "File name too long"),
+        Err(FillError::NotPresent) => list_standard_input(&rt),
     }
 }
 
-fn list_argument() {
-    let mut path = io::buffer();
-    let length = os::arg(1, &mut path);
-    if os::errno() != 0 {
-        os::fail(b"FILE");
-        return;
+// Whether there is an argument of this number. The program's own name is number 0.
+fn is_given(rt: &impl Env, number: usize) -> bool {
+    match rt.arg(number, &mut [0; MOST_NAME]) {
+        Ok(_) => true,
+        Err(FillError::TooLong) => true,
+        Err(FillError::NotPresent) => false,
     }
-    let fd = os::open_read(&path[..length]);
-    if fd < 0 {
-        os::fail(&path[..length]);
-        return;
-    }
-    list(fd, &path[..length]);
-    libc::close(fd);
 }
 
-fn list_standard_input() {
-    if libc::isatty(STDIN_FILENO) == 1 {
-        io::write_all(
-            STDERR_FILENO,
-            b"list_capture: waiting for a capture file on standard input\n",
-        );
+fn list_argument(rt: &HostRuntime, path: &[u8]) {
+    match str::from_utf8(path) {
+        Ok(name) => list_path(rt, name),
+        Err(_) => say(rt, "FILE", "the name is not UTF-8"),
     }
-    list(STDIN_FILENO, b"standard input");
+}
+
+fn list_path(rt: &HostRuntime, name: &str) {
+    match File::open(rt, name) {
+        Ok(mut file) => list(rt, &mut file, name),
+        Err(error) => fail(rt, name, error),
+    }
+}
+
+fn list_standard_input(rt: &HostRuntime) {
+    let mut input = rt.stdin();
+    if input.is_terminal() {
+        let _ = rt.eprintln("list_capture: waiting for a capture file on standard input");
+    }
+    list(rt, &mut input, "standard input");
 }
 
 // Writes the line of the file that is open, or says why it cannot be read.
-fn list(fd: i32, name: &[u8]) {
-    let mut file = io::large_buffer();
-    let input = read_input(fd, &mut file);
-    if input.failed {
-        os::fail(name);
-        return;
+fn list<R: Read>(rt: &HostRuntime, reader: &mut R, name: &str) {
+    let mut file = [0u8; MOST_BYTES];
+    let input = read_input(reader, &mut file);
+    match input.error {
+        Some(error) => fail(rt, name, error),
+        None => {
+            let length = input.length;
+            write_line(rt, &file[..length]);
+        }
     }
-    let length = input.length;
-    write_line(&file[..length]);
 }
 
-fn write_line(file: &[u8]) {
+fn write_line(rt: &HostRuntime, file: &[u8]) {
     let line = file_line(file);
     let bytes = line.bytes;
     let length = line.length;
-    if !io::write_all(STDOUT_FILENO, &bytes[..length]) {
-        os::fail(b"standard output");
+    if let Err(error) = rt.write_all(&bytes[..length]) {
+        fail(rt, "standard output", error);
     }
 }
 
-// How many bytes at the start of a buffer were read, and whether a read failed.
+// How many bytes at the start of a buffer were read, and why a read failed, if one did.
 #[derive(Clone, Copy)]
 struct Input {
     length: usize,
-    failed: bool,
+    error: Option<Error>,
 }
 
-// Reads until the buffer is full, the input ends or a read fails. If one failed, errno says why. io::read_full answers the same for a failure and an end.
-fn read_input(fd: i32, buffer: &mut [u8]) -> Input
-    ensures { IsPrefixLen result.«length» buffer.new }
+// Reads until the buffer is full, the input ends or a read fails.
+fn read_input<R: Read>(reader: &mut R, buffer: &mut [u8]) -> Input
+    ensures in_bounds { result.«length» ≤ length buffer.new }
+    ensures is_prefix { result.«length» ≡ length (take result.«length» buffer.new) }
 {
     let mut done = 0;
     while done < buffer.len() {
-        let rest = &mut buffer[done..];
-        let got = libc::read(fd, rest);
-        let more = io::count(got, rest);
-        if more == 0 {
-            return Input {
-                length: done,
-                failed: got < 0,
-            };
+        match reader.read(&mut buffer[done..]) {
+            Ok(0) => {
+                return Input {
+                    length: done,
+                    error: None,
+                };
+            }
+            Ok(more) => done += more,
+            Err(error) => {
+                return Input {
+                    length: done,
+                    error: Some(error),
+                };
+            }
         }
-        done += more;
     }
     Input {
         length: done,
-        failed: false,
+        error: None,
     }
+}
+
+// Says on standard error what failed, and why. If memory is short, the system's number of the error stands after its text.
+fn fail(rt: &HostRuntime, what: &str, error: Error) {
+    match format!(in rt.alloc(); "{error}") {
+        Ok(text) => say(rt, what, without_number(text.as_str())),
+        Err(_) => {
+            let _ = rt.eprintln(format_args!("{what}: {error}"));
+        }
+    }
+}
+
+// An error of the system is written as its text and then its number, as in `Is a directory (os error 21)`.
+fn without_number(text: &str) -> &str {
+    match text.rsplit_once(" (os error ") {
+        Some((words, _)) => words,
+        None => text,
+    }
+}
+
+fn say(rt: &HostRuntime, what: &str, why: &str) {
+    let _ = rt.eprintln(format_args!("{what}: {why}"));
 }
