@@ -4,6 +4,7 @@
 // with spaces between them. Its first number is the kind of call; `records.rt` says where each kind is. `#` starts a comment, up to the end of its
 // line. A record that cannot be read ends the run. The stored list has records that are wrong on purpose, at least one for each number that is
 // compared. So if a comparison is left out, it shows in what is printed.
+#![tactic(auto)]
 
 mod answers;
 mod capture;
@@ -18,33 +19,36 @@ mod sequences;
 mod verdict;
 
 ghost use Rattle.std.specs.Prelude.{◌≡◌, length};
+ghost use Rattle.std.specs.Io.{ReadsAtMost};
 
 use crate::report::KINDS;
 use crate::verdict::Verdict;
 use case_text::numbers::find;
 use case_text::widths::one_more;
-use libc::STDIN_FILENO;
+use std::io;
+use std::io::Read;
 
 const MOST_BYTES: usize = 131072;
 
 // Replays the record of a line, if it has one. If the run ends there, the answer is false.
 fn replay_line(
+    rt: &impl Print,
     line: &[u8],
     number: u64,
     compared: &mut [u64; KINDS],
     differing: &mut [u64; KINDS],
-) -> bool {
+) -> io::Result<bool> {
     let mut held = numbers::buffer();
     let read = numbers::read_line(line, &mut held);
     if !read.is_readable {
-        return report::enter(Verdict::Unreadable, 0, number, compared, differing);
+        return report::enter(rt, Verdict::Unreadable, 0, number, compared, differing);
     }
     let n = read.numbers;
     let verdict = records::replay(&held[0..n]);
-    report::enter(verdict, held[0], number, compared, differing)
+    report::enter(rt, verdict, held[0], number, compared, differing)
 }
 
-fn replay_list(text: &[u8]) {
+fn replay_list(rt: &impl Print, text: &[u8]) -> io::Result<()> {
     let mut compared = [0u64; KINDS];
     let mut differing = [0u64; KINDS];
     let mut number: u64 = 0;
@@ -52,12 +56,12 @@ fn replay_list(text: &[u8]) {
     while at < text.len() {
         let end = find(text, at, b'\n');
         number = one_more(number);
-        if !replay_line(&text[at..end], number, &mut compared, &mut differing) {
-            return;
+        if !replay_line(rt, &text[at..end], number, &mut compared, &mut differing)? {
+            return Ok(());
         }
         at = end + 1;
     }
-    report::counts(&compared, &differing);
+    report::counts(rt, &compared, &differing)
 }
 
 // Room for a list, and for one byte more. If a list fills it, it may be cut off.
@@ -67,12 +71,26 @@ fn buffer() -> [u8; MOST_BYTES]
     [0; MOST_BYTES]
 }
 
-fn main() {
-    let mut text = buffer();
-    let n = io::read_full(STDIN_FILENO, &mut text);
-    if n == text.len() {
-        report::too_long();
-        return;
+// Reads until the buffer is full or the input ends, and answers how many bytes at its start were read.
+fn read_full<R: Read>(reader: &mut R, buffer: &mut [u8]) -> io::Result<usize>
+    ensures { ReadsAtMost result buffer.new }
+{
+    let mut done = 0;
+    while done < buffer.len() {
+        let more = reader.read(&mut buffer[done..])?;
+        if more == 0 {
+            break;
+        }
+        done += more;
     }
-    replay_list(&text[..n]);
+    Ok(done)
+}
+
+fn main(rt: HostRuntime) -> io::Result<()> {
+    let mut text = buffer();
+    let n = read_full(&mut rt.stdin(), &mut text)?;
+    if n == text.len() {
+        return report::too_long(&rt);
+    }
+    replay_list(&rt, &text[..n])
 }
