@@ -1,7 +1,7 @@
 // Prints the fields of a bank.
 
 use crate::part::{MOST, Part};
-use crate::put::BYTES;
+use crate::put::Out;
 use crate::{counts, motors, part, put, replies};
 use case_text::widths::{flag, wide8, wide16, wide32};
 use dshot::DshotTiming;
@@ -70,14 +70,14 @@ fn of_marks(frame: Frame) -> Part {
     )
 }
 
-fn put_demand(out: &mut [u8; BYTES], at: usize, demand: Demand) -> usize {
+fn put_demand(out: &mut Out, at: usize, demand: Demand) -> usize {
     let values = demand.requested_values;
     let valued = put::part(out, at, part::of_values(values));
     let started = put::number(out, valued, demand.lease_started_ms);
     put::part(out, started, of_lease(demand.lease_over_after_ms))
 }
 
-fn put_requests(out: &mut [u8; BYTES], at: usize, requests: Requests) -> usize {
+fn put_requests(out: &mut Out, at: usize, requests: Requests) -> usize {
     let request = requests.telemetry_request;
     let sent = requests.telemetry_request_sent;
     let run = requests.command_sequence;
@@ -87,7 +87,7 @@ fn put_requests(out: &mut [u8; BYTES], at: usize, requests: Requests) -> usize {
 }
 
 // The replies and their counts are printed as the bank's own calls show them.
-pub(crate) fn put_fields(out: &mut [u8; BYTES], at: usize, bank: DshotBank) -> usize {
+pub(crate) fn put_fields(out: &mut Out, at: usize, bank: DshotBank) -> usize {
     let core = bank.core;
     let frame = core.frame;
     let timed = put::part(out, at, of_timing(core.timing));

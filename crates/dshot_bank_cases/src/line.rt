@@ -2,7 +2,7 @@
 
 use crate::numbers::MOST_NUMBERS;
 use crate::outcome::Outcome;
-use crate::put::BYTES;
+use crate::put::Out;
 use crate::slots::ROOM;
 use crate::{calls, fields, numbers, orders, put, slots};
 use dshot_bank::DshotBank;
@@ -32,7 +32,7 @@ fn clear(code: u64, first: &mut [u16; ROOM], second: &mut [u16; ROOM]) {
 }
 
 // All of a line except its slots.
-fn put_outcome(out: &mut [u8; BYTES], at: usize, code: u64, outcome: Outcome) -> usize {
+fn put_outcome(out: &mut Out, at: usize, code: u64, outcome: Outcome) -> usize {
     let answer = outcome.answer;
     let list = outcome.orders;
     let duties = outcome.first_duties;
@@ -51,7 +51,7 @@ pub(crate) fn run(
     bank: DshotBank,
     first: &mut [u16; ROOM],
     second: &mut [u16; ROOM],
-    out: &mut [u8; BYTES],
+    out: &mut Out,
     filled: usize,
 ) -> Done {
     let mut held = [0u64; MOST_NUMBERS];

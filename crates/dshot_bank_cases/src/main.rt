@@ -3,6 +3,7 @@
 // The list comes on standard input, as text of at most 65535 bytes, one call a line. A line is unsigned decimal numbers with one space between them.
 // The first is the code of the call; `calls.rt` says where each code is. For each line one line is printed, `CODE ANSWER | ORDERS | FIELDS | SLOTS`.
 // A line that cannot be read ends the run. Before a list's first code 0, the bank has a timing of zeros.
+#![tactic(auto)]
 
 mod calls;
 mod capture;
@@ -25,18 +26,22 @@ mod sets;
 mod slots;
 mod widths;
 
-use crate::put::BYTES;
+ghost use Rattle.std.specs.Io.{ReadsAtMost};
+
 use crate::slots::ROOM;
 use case_text::numbers::find;
 use case_text::widths::one_more;
 use dshot_bank::DshotBank;
-use libc::{STDIN_FILENO, STDOUT_FILENO};
+use std::io;
+use std::io::{Read, Stdout};
 
-fn run_list(text: &[u8]) {
+const MOST_BYTES: usize = 65536;
+
+fn run_list(to: Stdout, text: &[u8]) -> io::Result<()> {
     let mut bank = DshotBank::from_lanes(demands::timing(0, 0, 0, 0));
     let mut first = [0u16; ROOM];
     let mut second = [0u16; ROOM];
-    let mut out = [0u8; BYTES];
+    let mut out = put::buffer(to);
     let mut filled: usize = 0;
     let mut number: u64 = 0;
     let mut at: usize = 0;
@@ -60,15 +65,29 @@ fn run_list(text: &[u8]) {
         bank = done.bank;
         at = next;
     }
-    put::write(&out, filled);
+    put::finish(&mut out, filled)
 }
 
-fn main() {
-    let mut text = io::large_buffer();
-    let n = io::read_full(STDIN_FILENO, &mut text);
-    if n == text.len() {
-        io::write_all(STDOUT_FILENO, b"list too long\n");
-        return;
+// Reads until the buffer is full or the input ends, and answers how many bytes at its start were read.
+fn read_full<R: Read>(reader: &mut R, buffer: &mut [u8]) -> io::Result<usize>
+    ensures { ReadsAtMost result buffer.new }
+{
+    let mut done = 0;
+    while done < buffer.len() {
+        let more = reader.read(&mut buffer[done..])?;
+        if more == 0 {
+            break;
+        }
+        done += more;
     }
-    run_list(&text[..n]);
+    Ok(done)
+}
+
+fn main(rt: HostRuntime) -> io::Result<()> {
+    let mut text = [0u8; MOST_BYTES];
+    let n = read_full(&mut rt.stdin(), &mut text)?;
+    if n == text.len() {
+        return rt.println("list too long");
+    }
+    run_list(rt.stdout(), &text[..n])
 }

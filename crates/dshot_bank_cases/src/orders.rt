@@ -1,6 +1,6 @@
 // Prints the orders of a call.
 
-use crate::put::BYTES;
+use crate::put::Out;
 use crate::{part, put};
 use case_text::widths::wide8;
 use dshot::MotorValues;
@@ -9,7 +9,7 @@ use dshot_bank::orders::{MOST_ORDERS, Order, Orders};
 // The kind of order that the first duties follow.
 const START_FRAME: u64 = 3;
 
-fn put_order(out: &mut [u8; BYTES], at: usize, order: Order, duties: MotorValues) -> usize {
+fn put_order(out: &mut Out, at: usize, order: Order, duties: MotorValues) -> usize {
     let kind = order.kind;
     let number = kind.number();
     let end = put::part(out, at, part::two(number, wide8(order.motor)));
@@ -19,12 +19,7 @@ fn put_order(out: &mut [u8; BYTES], at: usize, order: Order, duties: MotorValues
     end
 }
 
-pub(crate) fn put_orders(
-    out: &mut [u8; BYTES],
-    at: usize,
-    orders: Orders,
-    duties: MotorValues,
-) -> usize {
+pub(crate) fn put_orders(out: &mut Out, at: usize, orders: Orders, duties: MotorValues) -> usize {
     if orders.count == 0 {
         return put::empty(out, at);
     }

@@ -2,29 +2,64 @@
 // answers where they end. If the buffer is full, it is written and starts again.
 
 use crate::part::{MOST, Part};
-use libc::STDOUT_FILENO;
+use itoa::Buffer;
+use std::io;
+use std::io::{Error, Stdout};
 
-pub const BYTES: usize = 65536;
+const BYTES: usize = 65536;
 
-// Writes the first `at` bytes to standard output. There are never more than the buffer has.
-pub(crate) fn write(out: &[u8; BYTES], at: usize) {
-    let all: &[u8] = out;
-    if at <= all.len() {
-        io::write_all(STDOUT_FILENO, &all[0..at]);
+// The buffer, where it is written, and why the first write that failed did.
+#[derive(Drop)]
+pub struct Out {
+    to: Stdout,
+    bytes: [u8; BYTES],
+    error: Option<Error>,
+}
+
+pub(crate) fn buffer(to: Stdout) -> Out {
+    Out {
+        to,
+        bytes: [0; BYTES],
+        error: None,
     }
 }
 
-pub(crate) fn byte(out: &mut [u8; BYTES], at: usize, byte: u8) -> usize {
+// Writes the first `at` bytes. There are never more than the buffer has.
+fn write(out: &mut Out, at: usize) {
+    if at <= BYTES {
+        let all: &[u8] = &out.bytes;
+        if let Err(error) = out.to.write_all(&all[0..at]) {
+            fail(out, error);
+        }
+    }
+}
+
+fn fail(out: &mut Out, error: Error) {
+    if out.error.is_none() {
+        out.error = Some(error);
+    }
+}
+
+// Writes the first `at` bytes, which are the last of the list. If a write failed, the answer says why.
+pub(crate) fn finish(out: &mut Out, at: usize) -> io::Result<()> {
+    write(out, at);
+    match out.error {
+        Some(error) => Err(error),
+        None => Ok(()),
+    }
+}
+
+pub(crate) fn byte(out: &mut Out, at: usize, byte: u8) -> usize {
     if at < BYTES {
-        out[at] = byte;
+        out.bytes[at] = byte;
         return at + 1;
     }
     write(out, BYTES);
-    out[0] = byte;
+    out.bytes[0] = byte;
     1
 }
 
-fn text(out: &mut [u8; BYTES], at: usize, bytes: &[u8]) -> usize {
+fn text(out: &mut Out, at: usize, bytes: &[u8]) -> usize {
     let mut end = at;
     let mut i: usize = 0;
     while i < bytes.len() {
@@ -35,18 +70,17 @@ fn text(out: &mut [u8; BYTES], at: usize, bytes: &[u8]) -> usize {
 }
 
 // A number without a space before it.
-pub(crate) fn digits(out: &mut [u8; BYTES], at: usize, n: u64) -> usize {
-    let mut bytes = [0u8; 20];
-    let count = io::decimal(n, &mut bytes);
-    text(out, at, &bytes[..count])
+pub(crate) fn digits(out: &mut Out, at: usize, n: u64) -> usize {
+    let mut buffer = Buffer::new();
+    text(out, at, buffer.format(n).as_bytes())
 }
 
-pub(crate) fn number(out: &mut [u8; BYTES], at: usize, n: u64) -> usize {
+pub(crate) fn number(out: &mut Out, at: usize, n: u64) -> usize {
     let after = byte(out, at, b' ');
     digits(out, after, n)
 }
 
-pub(crate) fn part(out: &mut [u8; BYTES], at: usize, part: Part) -> usize {
+pub(crate) fn part(out: &mut Out, at: usize, part: Part) -> usize {
     let count = part.count;
     let list = part.list;
     let mut end = at;
@@ -59,16 +93,16 @@ pub(crate) fn part(out: &mut [u8; BYTES], at: usize, part: Part) -> usize {
 }
 
 // The bar between two parts. The space after it comes with the next part's first number.
-pub(crate) fn bar(out: &mut [u8; BYTES], at: usize) -> usize {
+pub(crate) fn bar(out: &mut Out, at: usize) -> usize {
     text(out, at, b" |")
 }
 
 // The space after a bar, if the part has no number.
-pub(crate) fn empty(out: &mut [u8; BYTES], at: usize) -> usize {
+pub(crate) fn empty(out: &mut Out, at: usize) -> usize {
     byte(out, at, b' ')
 }
 
-pub(crate) fn unreadable(out: &mut [u8; BYTES], at: usize, line: u64) -> usize {
+pub(crate) fn unreadable(out: &mut Out, at: usize, line: u64) -> usize {
     let words = text(out, at, b"unreadable line");
     let end = number(out, words, line);
     byte(out, end, b'\n')

@@ -1,13 +1,13 @@
 // Prints the slots that a call changed.
 
 use crate::put;
-use crate::put::BYTES;
+use crate::put::Out;
 use case_text::widths::wide16;
 
 // The slots of a sequence buffer: more than the bank takes, so that a list can lend too many.
 pub const ROOM: usize = 80;
 
-fn put_slot(out: &mut [u8; BYTES], at: usize, buffer: u64, slot: usize, value: u16) -> usize {
+fn put_slot(out: &mut Out, at: usize, buffer: u64, slot: usize, value: u16) -> usize {
     let named = put::number(out, at, buffer);
     let placed = put::number(out, named, slot as u64);
     put::number(out, placed, wide16(value))
@@ -23,7 +23,7 @@ fn are_same(before: [u16; ROOM], after: [u16; ROOM]) -> bool {
 }
 
 fn put_buffer(
-    out: &mut [u8; BYTES],
+    out: &mut Out,
     at: usize,
     buffer: u64,
     before: [u16; ROOM],
@@ -39,7 +39,7 @@ fn put_buffer(
 }
 
 pub(crate) fn put_changed(
-    out: &mut [u8; BYTES],
+    out: &mut Out,
     at: usize,
     first_before: [u16; ROOM],
     first_after: [u16; ROOM],
