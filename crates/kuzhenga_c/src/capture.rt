@@ -1,0 +1,71 @@
+// The calls of crates/kuzhenga/src/capture.rt.
+
+ghost use Rattle.std.specs.Prelude.{◌≡◌, not, ◌%◌, eqb};
+ghost use Rattle.dshot_reply_spec.specs.Answer.{given, refusal_number, filled};
+ghost use Rattle.capture_file.specs.File.{capture, front, slots_of, read_into, written_into};
+ghost use Rattle.capture_file.specs.Listing.{file_line};
+ghost use Rattle.kuzhenga.specs.Slots.{asked};
+ghost use Rattle.kuzhenga.specs.CaptureSlots.{capture_slots, count_slot, line_bytes};
+
+// Reads a file. Its samples fill the first slots. Three more slots take the number of samples, the mask and EDT (0 or 1).
+#[unsafe(no_mangle)]
+pub extern "C" fn kuzhenga_read_capture(file: &[u8], samples: &mut [u16], about: &mut [u16]) -> u32
+    ensures value { result ≡ refusal_number (asked 3 about.old (read_into file.now samples.old)) }
+    ensures samples_after { samples.new
+        ≡ filled (slots_of samples.old) samples.old
+        (asked 3 about.old (read_into file.now samples.old)) }
+    ensures about_after { about.new
+        ≡ filled capture_slots about.old (asked 3 about.old (read_into file.now samples.old)) }
+{
+    kuzhenga::capture::kuzhenga_read_capture(file, samples, about)
+}
+
+// Writes the file of a capture at the front of a buffer, and its length into one slot. Only the mask's low sixteen bits count.
+#[unsafe(no_mangle)]
+pub extern "C" fn kuzhenga_write_capture(
+    samples: &[u16],
+    pin_mask: u32,
+    extended_telemetry: u32,
+    file: &mut [u8],
+    file_length: &mut [u16],
+) -> u32
+    ensures value { result
+        ≡ refusal_number
+        (asked 1 file_length.old
+        (written_into (capture (pin_mask % 65536) (not (eqb extended_telemetry 0)) samples.now) file.old)) }
+    ensures file_after { file.new
+        ≡ filled (front file.old) file.old
+        (asked 1 file_length.old
+        (written_into (capture (pin_mask % 65536) (not (eqb extended_telemetry 0)) samples.now) file.old)) }
+    ensures file_length_after { file_length.new
+        ≡ filled count_slot file_length.old
+        (asked 1 file_length.old
+        (written_into (capture (pin_mask % 65536) (not (eqb extended_telemetry 0)) samples.now) file.old)) }
+{
+    kuzhenga::capture::kuzhenga_write_capture(
+        samples,
+        pin_mask,
+        extended_telemetry,
+        file,
+        file_length,
+    )
+}
+
+// The line of a file with zeros after it, and its length in one slot. If a file holds no capture, its line is `refused 17`, and the call is done.
+#[unsafe(no_mangle)]
+pub extern "C" fn kuzhenga_list_capture(
+    file: &[u8],
+    line: &mut [u8],
+    line_length: &mut [u16],
+) -> u32
+    ensures value { result
+        ≡ refusal_number (asked 32 line.old (asked 1 line_length.old (given (file_line file.now)))) }
+    ensures line_after { line.new
+        ≡ filled line_bytes line.old
+        (asked 32 line.old (asked 1 line_length.old (given (file_line file.now)))) }
+    ensures line_length_after { line_length.new
+        ≡ filled count_slot line_length.old
+        (asked 32 line.old (asked 1 line_length.old (given (file_line file.now)))) }
+{
+    kuzhenga::capture::kuzhenga_list_capture(file, line, line_length)
+}
