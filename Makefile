@@ -40,15 +40,17 @@ check:
 
 # ---- the archive
 
-# `rt staticlib` proves the last crate even if nothing changed, which takes about a minute. So it is called only if a
-# file or folder of these crates is newer than the archive.
+# `rt lib` looks at each crate below even if nothing changed. So it is called only if a file or folder of these crates is
+# newer than the archive.
 ifeq ($(ARCHIVE),)
-crates := kuzhenga $(shell sed -n 's/^kuzhenga: *//p' crates.txt)
-proved := crates.txt $(shell find $(crates:%=crates/%) -not -path '*/must-fail*')
+crates := kuzhenga_c kuzhenga $(shell sed -n 's/^kuzhenga: *//p' crates.txt)
+proved := crates.txt $(shell find $(wildcard $(foreach part,src specs proofs,$(crates:%=crates/%/$(part)))))
 
 $(archive): $(proved)
 	@command -v rt >/dev/null || { echo 'rt, the toolchain, is not found; ARCHIVE=FOLDER does without it' >&2; exit 1; }
-	rt staticlib kuzhenga
+	cd crates/kuzhenga_c && rt lib
+	@mkdir -p $(@D)
+	cp crates/kuzhenga_c/out/libkuzhenga_c.a $@
 
 $(made_with): $(archive)
 endif
