@@ -1,0 +1,16 @@
+-- `dshot_bank_bench::put_counts` meets its contract: before each turn of the loop the counts so far are put.
+-- Assumes nothing.
+use Rattle.std.proofs.Common.{◌-◌, rules}
+use Rattle.dshot_spec.proofs.Tabulated.{Filled, filled_none, filled_more, filled-all}
+use Rattle.dshot_bank.specs.States.{bank_of}
+use Rattle.dshot_bank_bench.specs.Cycles.{count_at}
+use Rattle.dshot_bank_bench.proofs.put_counts.Goals as goal
+
+pub loop-i-init : goal.loop-i-init
+loop-i-init c = filled_none c.requires
+
+pub loop-i-preserved : goal.loop-i-preserved
+loop-i-preserved c = filled_more c.loop-i.invariant c.loop-i-test.true c.count_at.ensures
+
+pub returns : goal.returns
+returns c = filled-all c.loop-i.invariant c.loop-i-test.false
