@@ -50,7 +50,7 @@ abbrev pub BodyFrom : BodyMode → List Item → List Placed → Type 0
 BodyFrom W.ending is = Then End (λ r. Items r is)
 BodyFrom W.items is = λ r. Items r is
 BodyFrom W.text is = AfterText (λ r. Items r is)
-BodyFrom W.inBlock is = InBlock is
+BodyFrom W.in_block is = InBlock is
 BodyFrom W.itemCode is = Then Name (λ r. Items r is)
 BodyFrom W.block_code is = Then Name (InBlock is)
 
@@ -121,9 +121,9 @@ word_in : (m : BodyMode) (is : List Item) (w : Placed) (ws : List Placed) → Af
 word_in W.ending is w ws h = wanted (is_end w.bytes) W.items _ w.at is ws h
 word_in W.items is w ws h = item_in (kind_of w.bytes) is w ws (seen w.bytes) h
 word_in W.text is w ws h = text_in (λ m. BodyFrom m is) W.items W.text w ws (is_end w.bytes) refl (λ d. d) h
-word_in W.inBlock is w ws h = in-block (is_end w.bytes) is w ws refl h
+word_in W.in_block is w ws h = in-block (is_end w.bytes) is w ws refl h
 word_in W.itemCode is w ws h = wanted (is_name w.bytes) W.items _ w.at is ws h
-word_in W.block_code is w ws h = wanted (is_name w.bytes) W.inBlock _ w.at is ws h
+word_in W.block_code is w ws h = wanted (is_name w.bytes) W.in_block _ w.at is ws h
 
 -- ---- what the walk gives, as items
 
@@ -151,7 +151,7 @@ module _ (n : ℕ) where
   ended W.items (G.clock t q ∷ is) e = absurd (true≢false (cc))
   ended W.items (G.value l c ∷ is) e = absurd (true≢false (cc))
   ended W.text is e = absurd (whole _ _ is e)
-  ended W.inBlock is e = absurd (whole _ _ is e)
+  ended W.in_block is e = absurd (whole _ _ is e)
   ended W.itemCode is e = whole _ _ is e
   ended W.block_code is e = whole _ _ is e
 

@@ -6,7 +6,7 @@ use mathlib.Core.Bool.{Bool, true, false}
 use mathlib.Core.List.{List, [], ◌∷◌, ◌++◌}
 use Prim.Native.Nat.{ℕ, zero, suc, ◌+◌, ◌*◌, ◌≤◌, ◌<◌}
 use native.Mathlib.Omega.{arith}
-use lib.Dec.{eqb, ltb}
+use lib.Dec.{eqb, leb, ltb}
 use lib.ListN.{length, get_or}
 use borrow.Author.Tests.{eqb-true, eq-eqb, ltb-true, lt-ltb, le-leb, lt-leb}
 use Rattle.dshot_reply_spec.specs.Answer.{given, pick}
@@ -33,7 +33,7 @@ level_before l (c ∷ cs) t h = ap (λ (k : ℕ). level_at k cs t) (off _ _ (lt-
 pub level-last : (l : ℕ) (before : List Change) (c : Change) (after : List Change) (t : ℕ) → c.time ≤ t → AllFrom (suc t) after
     → level_at l (before ++ (c ∷ after)) t ≡ c.level
 level-last l [] c after t h a = ap (λ (k : ℕ). level_at k after t) (on _ _ (le-leb c.time t h)) ∙ level_before c.level after t a
-level-last l (b ∷ before) c after t h a = level-last _ before c after t h a
+level-last l (b ∷ before) c after t h a = level-last (pick (leb b.time t) b.level l) before c after t h a
 
 -- ---- samples
 
