@@ -11,8 +11,7 @@ use Rattle.dump_words.specs.Answers.{part_answer}
 use Rattle.dump_words.specs.declared.name.Part.{Part}
 use Rattle.dump_words.specs.declared.name.Part.TheVariants as Part
 use Rattle.dump_words.specs.contracts.name.Part.{the_type}
-use Rattle.dump_words.proofs.name.is_wrong.Statement.{statement}
-use Rattle.dump_words.proofs.name.is_wrong.Tie as tie
+use Rattle.dump_words.proofs.name.is_wrong.Goals as goal
 
 not-wrong : (p : Part) → OneOf (0 ∷ 1 ∷ 2 ∷ 3 ∷ 4 ∷ 5 ∷ 6 ∷ 7 ∷ 8 ∷ []) (tag_of the_type p) → is_wrong (part_answer p) ≡ false
 not-wrong Part.Outside h = refl
@@ -26,14 +25,5 @@ not-wrong Part.LastDigits h = refl
 not-wrong Part.LastAfter h = refl
 not-wrong Part.Wrong h = absurd (miss (0 ∷ 1 ∷ 2 ∷ 3 ∷ 4 ∷ 5 ∷ 6 ∷ 7 ∷ 8 ∷ []) 9 tt h)
 
-enum_told : tie.Need-enum-told
-enum_told c = search rules
-
-returns : tie.Need-returns
-returns c = search rules
-
-returns-2 : tie.Need-returns-2
-returns-2 c = sym (not-wrong c.before.args.part c.match.keys2)
-
-pub is-wrong-spec : {M : Type 1} → statement M
-is-wrong-spec = tie.close (tie.spec enum_told returns returns-2)
+pub returns-in_default : goal.returns-in_default
+returns-in_default c = sym (not-wrong c.args.part c.in_default.in_default-own.keys2)

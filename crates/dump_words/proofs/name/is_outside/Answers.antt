@@ -11,8 +11,7 @@ use Rattle.dump_words.specs.Answers.{part_answer}
 use Rattle.dump_words.specs.declared.name.Part.{Part}
 use Rattle.dump_words.specs.declared.name.Part.TheVariants as Part
 use Rattle.dump_words.specs.contracts.name.Part.{the_type}
-use Rattle.dump_words.proofs.name.is_outside.Statement.{statement}
-use Rattle.dump_words.proofs.name.is_outside.Tie as tie
+use Rattle.dump_words.proofs.name.is_outside.Goals as goal
 
 not-outside : (p : Part) → OneOf (1 ∷ 2 ∷ 3 ∷ 4 ∷ 5 ∷ 6 ∷ 7 ∷ 8 ∷ 9 ∷ []) (tag_of the_type p) → is_outside (part_answer p) ≡ false
 not-outside Part.Outside h = absurd (miss (1 ∷ 2 ∷ 3 ∷ 4 ∷ 5 ∷ 6 ∷ 7 ∷ 8 ∷ 9 ∷ []) 0 tt h)
@@ -26,14 +25,5 @@ not-outside Part.LastDigits h = refl
 not-outside Part.LastAfter h = refl
 not-outside Part.Wrong h = refl
 
-enum_told : tie.Need-enum-told
-enum_told c = search rules
-
-returns : tie.Need-returns
-returns c = search rules
-
-returns-2 : tie.Need-returns-2
-returns-2 c = sym (not-outside c.before.args.part c.match.keys2)
-
-pub is-outside-spec : {M : Type 1} → statement M
-is-outside-spec = tie.close (tie.spec enum_told returns returns-2)
+pub returns-in_default : goal.returns-in_default
+returns-in_default c = sym (not-outside c.args.part c.in_default.in_default-own.keys2)
