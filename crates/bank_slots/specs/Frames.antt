@@ -1,6 +1,6 @@
 -- What the private functions that send a frame set return, in the terms of the definitions. Only private functions cite this.
 -- Assumes nothing.
-use Rattle.std.specs.Prelude.{◌≡◌, ℕ, ◌<◌}
+use Rattle.std.specs.Prelude.{◌≡◌, ◌<◌}
 use Rattle.std.proofs.Math.Option.{Option, none, some}
 use Rattle.dshot.specs.Answers.{lane_of}
 use Rattle.dshot_bank_spec.specs.State.{Core}

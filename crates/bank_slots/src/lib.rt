@@ -1,5 +1,6 @@
 // Added: the calls of a bank on its state in lent slots, for hosts that keep it in slots. A call of the crate `dshot_bank` takes a bank and hands it
 // back. The call here does the same to the bank in the slots. It writes only the slots that change.
+#![tactic(auto)]
 
 // Numbers in slots.
 mod memory;

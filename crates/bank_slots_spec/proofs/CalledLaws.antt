@@ -1,14 +1,12 @@
 -- What a call on the slots of a bank promises, if it refuses and if it takes its step.
 -- Assumes nothing.
-use mathlib.Core.Path.{◌≡◌, ◌∙◌, refl, sym, ap, subst}
+use mathlib.Core.Path.{◌≡◌, ◌∙◌, refl, sym, ap}
 use mathlib.Core.Bool.{Bool, true, false}
 use mathlib.Core.List.{List}
 use Prim.Native.Nat.{ℕ}
-use native.Mathlib.Omega.{arith}
 use lib.Dec.{eqb}
 use lib.ListN.{length}
 use borrow.Author.Tests.{eq-eqb, ne_eqb}
-use Rattle.dshot_reply_spec.specs.Answer.{if◌then◌else◌}
 use Rattle.dshot_reply_spec.specs.Refusals.{wrong_length}
 use Rattle.dshot_bank_spec.specs.State.{Bank, Buffers}
 use Rattle.dshot_bank_spec.specs.Calls.{Call, Answer, refused, State}
@@ -16,10 +14,9 @@ use Rattle.dshot_bank_spec.specs.Steps.{step}
 use Rattle.dshot_bank_spec.specs.Lists.{is_refused}
 use Rattle.dshot_bank_spec.proofs.LaneLaws.{on, off}
 use Rattle.dshot_bank_spec.proofs.Refusals.{refusals-keep}
-use Rattle.bank_slots_spec.specs.Load.{load}
 use Rattle.bank_slots_spec.specs.Places as Places
 use Rattle.bank_slots_spec.specs.Moves.{Moves}
-use Rattle.bank_slots_spec.specs.Called.{Called, fit, sized, number, state_at, answer_of, bank_after, buffers_after}
+use Rattle.bank_slots_spec.specs.Called.{Called, fit, number, state_at, answer_of, bank_after, buffers_after}
 use Rattle.bank_slots_spec.specs.Outs.{slots_of, out_after}
 
 -- ---- lengths

@@ -1,6 +1,6 @@
 -- A call on slots that the library wrote. Every slot after it is what would be written for the bank after its step. That bank fits again.
 -- Assumes nothing.
-use mathlib.Core.Path.{◌≡◌, ◌∙◌, sym, ap, subst}
+use mathlib.Core.Path.{◌≡◌, ◌∙◌, ap, subst}
 use mathlib.Core.Bool.{Bool}
 use mathlib.Core.List.{List}
 use Prim.Native.Nat.{ℕ}

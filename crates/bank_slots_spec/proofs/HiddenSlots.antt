@@ -1,9 +1,9 @@
 -- Answers and states that are equal with one lane hidden have as many slots. They are equal in every slot that says nothing of that lane.
 -- Assumes nothing.
 use mathlib.Core.Path.{◌≡◌, ◌∙◌, refl, sym, ap, subst}
-use mathlib.Core.List.{List, [], ◌∷◌, ◌++◌}
+use mathlib.Core.List.{List, ◌∷◌, ◌++◌}
 use mathlib.Core.Option.{Option, none, some}
-use Prim.Native.Nat.{ℕ, zero, suc, ◌+◌, ◌-◌, ◌*◌, ◌/◌, ◌%◌, ◌<◌, ◌≤◌}
+use Prim.Native.Nat.{ℕ, zero, suc, ◌+◌, ◌-◌, ◌*◌, ◌<◌, ◌≤◌}
 use native.Mathlib.Omega.{arith}
 use native.Mathlib.Decide.{dec_lt}
 use lib.ListN.{length, get_or, set, take, replicate, length-append, get_or-append, get_or-eq_default}
@@ -19,11 +19,10 @@ use Rattle.dshot_bank_spec.specs.Calls as Call
 use Rattle.dshot_bank_spec.proofs.HiddenLaws.{hidden-replies}
 use Rattle.dshot_bank_spec.specs.Hide.{hide_answer, hide_taken, hide_counts, hide_bank}
 use Rattle.bank_slots_spec.specs.Memory.{at, write}
-use Rattle.bank_slots_spec.specs.Places.{REPLIES}
 use Rattle.bank_slots_spec.specs.Load.{four_lists}
 use Rattle.bank_slots_spec.specs.Store.{reply_kind, reply_number, core_rows, store}
 use Rattle.bank_slots_spec.specs.Called.{number}
-use Rattle.bank_slots_spec.specs.Outs.{word_slots, reply_slots, replies_slots, reply_count_slots, slots_of, out_after}
+use Rattle.bank_slots_spec.specs.Outs.{word_slots, reply_slots, replies_slots, reply_count_slots, out_after}
 use Rattle.bank_slots_spec.specs.SlotClaims.{Within, Tells, TellsSlot}
 
 -- ---- lists of parts

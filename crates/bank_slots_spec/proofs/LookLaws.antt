@@ -7,10 +7,9 @@ use mathlib.Core.List.{List, [], ◌∷◌, ◌++◌, append_assoc}
 use mathlib.Core.Option.{Option, none, some}
 use Prim.Native.Nat.{ℕ, zero, suc, ◌+◌, ◌-◌, ◌*◌, ◌/◌, ◌%◌, ◌<◌, ◌≤◌, zero-le}
 use native.Mathlib.Omega.{arith}
-use lib.Dec.{eqb, ltb}
-use lib.ListN.{length, get_or, set, take, drop, replicate, length-set}
+use lib.Dec.{eqb}
+use lib.ListN.{length, get_or, set, take, drop, length-set}
 use lib.Seq.{take_all}
-use borrow.Author.Tests.{ltb-true, ne_eqb}
 use Rattle.dshot_reply_spec.specs.Answer.{pick, given, refused, if◌then◌else◌}
 use Rattle.dshot_reply_spec.specs.Refusals.{no_reply}
 use Rattle.dshot_reply_spec.specs.Answer as Reply
@@ -18,15 +17,13 @@ use Rattle.dshot_reply_spec.specs.Value.{Reading}
 use Rattle.dshot_reply_spec.specs.Kind.{kind_number, reading_number}
 use Rattle.dshot_spec.specs.Tabulate.{tabulate, part}
 use Rattle.dshot_bank_spec.specs.Lanes.{is_some}
-use Rattle.dshot_bank_spec.specs.State.{Core, Buffers}
-use Rattle.dshot_bank_spec.specs.With.{with_replies_held, with_frame}
+use Rattle.dshot_bank_spec.specs.State.{Buffers}
 use Rattle.dshot_bank_spec.specs.Calls.{Call, Answer, is_bidirectional, is_faulted, command_pending_call, requested_values_call, stats, reply_stats, take_replies, values, counts, reply_counts, replied, replies_taken, sequence_sent, reply_stats_of, replies_of}
 use Rattle.dshot_bank_spec.specs.Steps.{port_refusal, step}
 use Rattle.dshot_bank_spec.specs.Calls as Call
-use Rattle.dshot_bank_spec.proofs.LaneLaws.{off}
 use Rattle.bank_slots_spec.specs.Memory.{◌holds◌, at, write, word, word_rows}
 use Rattle.bank_slots_spec.specs.Places.{VALUES, RUN, FAULTED, BIDIRECTIONAL, REPLIES_HELD, IN_SECOND, FRAMES_STARTED, FRAMES_COMPLETED, LANE_COMPLETIONS, BUSY_SKIPS, LEASE_EXPIRIES, FRAME_TIMEOUTS, DMA_FAULTS, SPURIOUS, REPLIES}
-use Rattle.bank_slots_spec.specs.Load.{flag, REFUSED, is_refused_kind, reply, four, four_lists, statsAt, laneAt, bankAt, load}
+use Rattle.bank_slots_spec.specs.Load.{flag, REFUSED, is_refused_kind, reply, four, four_lists, statsAt, laneAt, load}
 use Rattle.bank_slots_spec.specs.Store.{bit}
 use Rattle.bank_slots_spec.specs.Places as Places
 use Rattle.bank_slots_spec.specs.Storable.{Below}
@@ -37,7 +34,7 @@ use Rattle.bank_slots_spec.specs.Parts.{slot_rows}
 use Rattle.bank_slots_spec.proofs.MemoryLaws.{length-write}
 use Rattle.bank_slots_spec.proofs.FieldLaws.{word_low, word-high, kind-refused, reply-refused}
 use Rattle.bank_slots_spec.proofs.FillLaws.{tabulated, filled-to, filled}
-use Rattle.bank_slots_spec.proofs.MoveLaws.{moves-write, stays}
+use Rattle.bank_slots_spec.proofs.MoveLaws.{moves-write}
 use Rattle.bank_slots_spec.proofs.CalledLaws.{state-short, answer-unfit, answer-fits, called-unfit, called-done, out-kept, out-filled}
 use Rattle.bank_slots_spec.proofs.CommandCalls.{other-long, both-fit}
 

@@ -2,14 +2,13 @@
 -- exchange names a buffer. Once the lane has taken it, the lane sends from it.
 -- Assumes nothing.
 use mathlib.Core.Path.{◌≡◌, ◌∙◌, refl, sym, ap}
-use mathlib.Core.Bool.{Bool, true, false, not}
+use mathlib.Core.Bool.{Bool, false}
 use mathlib.Core.List.{List}
 use Prim.Native.Nat.{ℕ, ◌+◌, ◌*◌, ◌<◌, min}
 use native.Mathlib.Omega.{arith}
-use lib.Dec.{ltb}
 use lib.ListN.{get_or}
 use borrow.Author.Tests.{lt-ltb, le-ltb}
-use Rattle.dshot_spec.specs.Command.{Command, Next, none, next_value}
+use Rattle.dshot_spec.specs.Command.{Next, none, next_value}
 use Rattle.dshot_spec.proofs.Tabulated.{get_d_tabulate}
 use Rattle.dshot_bank_spec.specs.Order.{exchange_buffer}
 use Rattle.dshot_bank_spec.specs.Send.{turn_marks}

@@ -14,12 +14,11 @@ use Rattle.dshot_bank_spec.specs.Commands.{enable_bidirectional, command_throttl
 use Rattle.dshot_bank_spec.specs.Calls.{Call, enable_bidirectional_call, command_stop_call, command_throttles_call, command_special_call, request_telemetry_call, cancel_telemetry_request_call, take_telemetry_request_sent, service_call, on_dma_interrupt, take_replies, is_bidirectional, is_faulted, stats, requested_values_call, command_pending_call, reply_stats, sending, lend, refused, State, Stepped, told, commanded, act}
 use Rattle.dshot_bank_spec.specs.Steps.{step}
 use Rattle.dshot_bank_spec.specs.Lists.{is_look, run, trace}
-use Rattle.dshot_bank_spec.specs.Hide.{WireAlike, hide, hide_answer, hide_state}
+use Rattle.dshot_bank_spec.specs.Hide.{WireAlike, hide, hide_state}
 use Rattle.dshot_bank_spec.proofs.Isolation.{as-wired, step-alike}
 use Rattle.dshot_bank_spec.proofs.Refusals.{either_step, looks-keep}
 use Rattle.bank_slots_spec.specs.Load.{load}
 use Rattle.bank_slots_spec.specs.Called.{Called, number, state_at, answer_of, bank_after, buffers_after}
-use Rattle.bank_slots_spec.specs.Outs.{out_after}
 use Rattle.bank_slots_spec.proofs.HiddenSlots.{same_number, same-long, same-told}
 use Rattle.bank_slots_spec.specs.SlotLists.{Made, made, made_trace, made_run, Shown, shown_by, shown_all, fitting, fitting_of, acting_made, acting_made_of, Ran, none_left, one_more, leaves, both_end, both_more, MadeAlike, MadeWireAlike}
 use Rattle.bank_slots_spec.specs.SlotClaims.{SameShown, none_shown, one_shown, SlotsIsolated}

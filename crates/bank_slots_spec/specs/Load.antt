@@ -10,7 +10,7 @@ use Rattle.dshot_spec.specs.Timing.{Timing}
 use Rattle.dshot_spec.specs.Command.{CommandRun}
 use Rattle.dshot_bank_spec.specs.State.{Demand, Telemetry, MotorRun, Frame, Stats, Core, LaneReply, Bank, lease_of}
 use Rattle.bank_slots_spec.specs.Memory.{at, word, long}
-use Rattle.bank_slots_spec.specs.Places.{slots, TIMING, VALUES, LEASE_STARTED, LEASE_OVER, REQUEST, REQUEST_SENT, RUN, BUSY, FAULTED, BIDIRECTIONAL, RECEIVING, REPLIES_WAITING, REPLIES_HELD, IN_SECOND, COMPLETION_MASK, STARTED, FRAMES_STARTED, FRAMES_COMPLETED, LANE_COMPLETIONS, BUSY_SKIPS, LEASE_EXPIRIES, FRAME_TIMEOUTS, DMA_FAULTS, SPURIOUS, REPLIES}
+use Rattle.bank_slots_spec.specs.Places.{TIMING, VALUES, LEASE_STARTED, LEASE_OVER, REQUEST, REQUEST_SENT, RUN, BUSY, FAULTED, BIDIRECTIONAL, RECEIVING, REPLIES_WAITING, REPLIES_HELD, IN_SECOND, COMPLETION_MASK, STARTED, FRAMES_STARTED, FRAMES_COMPLETED, LANE_COMPLETIONS, BUSY_SKIPS, LEASE_EXPIRIES, FRAME_TIMEOUTS, DMA_FAULTS, SPURIOUS, REPLIES}
 
 -- a flag: 0 means no, any other number means yes
 abbrev pub flag : ℕ → Bool

@@ -17,7 +17,7 @@ use Rattle.dshot_bank_spec.specs.Interrupt.{InterruptEvent}
 use Rattle.dshot_bank_spec.specs.Interrupt as Interrupt
 use Rattle.dshot_bank_spec.specs.Calls.{Answer, done, motor_sent, serviced, interrupted, replied, counts, values, reply_counts, slots, ReplyStats}
 use Rattle.dshot_bank_spec.specs.Calls as Call
-use Rattle.bank_slots_spec.specs.Load.{flag, four, four_lists}
+use Rattle.bank_slots_spec.specs.Load.{four_lists}
 use Rattle.bank_slots_spec.specs.Store.{bit}
 use Rattle.bank_slots_spec.specs.Called.{number}
 

@@ -11,7 +11,6 @@ use Rattle.dshot_bank_spec.specs.Commands.{next_command_frame}
 use Rattle.dshot_bank_spec.specs.Service.{replies_read, read_replies}
 use Rattle.dshot_bank_spec.specs.Send.{count_fault, turn_marks, carry}
 use Rattle.dshot_reply_spec.specs.Answer.{if◌then◌else◌}
-use Rattle.bank_slots_spec.specs.Load.{reply}
 use Rattle.bank_slots_spec.specs.Memory.{Row, ◌holds◌, at, write, word, word_rows}
 
 -- the slots with one more in the count at slot k

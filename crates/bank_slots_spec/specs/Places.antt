@@ -2,7 +2,7 @@
 -- takes four.
 -- Added: document 01 asks for calls from C.
 -- Assumes nothing.
-use Rattle.std.specs.Prelude.{ℕ, ◌+◌, ◌*◌}
+use Rattle.std.specs.Prelude.{ℕ}
 
 abbrev pub slots : ℕ
 slots = 97

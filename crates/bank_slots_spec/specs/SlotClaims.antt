@@ -4,7 +4,7 @@ use Rattle.std.specs.Prelude.{ℕ, ◌+◌, ◌*◌, ◌%◌, ◌<◌, ◌≤◌
 use Rattle.dshot_spec.specs.Timing.{Timing}
 use Rattle.dshot_bank_spec.specs.State.{Bank, Buffers}
 use Rattle.dshot_bank_spec.specs.Commands.{from_lanes}
-use Rattle.dshot_bank_spec.specs.Calls.{Call, enable_bidirectional_call, service_call, Answer, done, refused, motor_sent, serviced, interrupted, replied, flag, counts, values, reply_counts, slots, State, Stepped}
+use Rattle.dshot_bank_spec.specs.Calls.{enable_bidirectional_call, service_call, Answer, done, refused, motor_sent, serviced, interrupted, replied, flag, counts, values, reply_counts, slots, State, Stepped}
 use Rattle.dshot_bank_spec.specs.Lists.{run, trace, fresh}
 use Rattle.dshot_bank_spec.specs.Hide.{hide}
 use Rattle.dshot_bank_spec.specs.Claims.{fits, reads, before, served, Stored, Decoded}

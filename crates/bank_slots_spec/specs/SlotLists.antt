@@ -4,7 +4,7 @@ use Rattle.std.specs.Prelude.{ℕ, ◌≡◌, Bool, List, [], ◌∷◌, length}
 use Rattle.dshot_reply_spec.specs.Answer.{if◌then◌else◌}
 use Rattle.dshot_reply_spec.specs.Refusals.{wrong_length}
 use Rattle.dshot_bank_spec.specs.State.{Buffers}
-use Rattle.dshot_bank_spec.specs.Calls.{Call, Answer, refused, State, Stepped, told}
+use Rattle.dshot_bank_spec.specs.Calls.{Call, refused, State, Stepped, told}
 use Rattle.dshot_bank_spec.specs.Steps.{step}
 use Rattle.dshot_bank_spec.specs.Lists.{is_look}
 use Rattle.dshot_bank_spec.specs.Hide.{Alike, WireAlike}

@@ -1,4 +1,5 @@
 // Added: captures at the bench. They are the capture file, and the line that is printed for a capture.
+#![tactic(auto)]
 
 // Files, read and written.
 pub mod file;

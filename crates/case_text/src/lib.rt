@@ -1,4 +1,5 @@
 // What the test programs share: the numbers of a line of text, numbers of other widths as 64-bit ones, and a reply as three numbers.
+#![tactic(auto)]
 
 pub mod answers;
 pub mod numbers;

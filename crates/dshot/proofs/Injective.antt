@@ -7,7 +7,6 @@ use Rattle.dshot_spec.specs.Packet.{Kind, plain, inverted, Frame}
 use Rattle.dshot_spec.specs.Packet as Packet
 use Rattle.dshot_spec.specs.Timing.{Timing}
 use Rattle.dshot_spec.specs.Command.{CommandRun, Command, send, Next}
-use Rattle.dshot_spec.specs.Command as Command
 use Rattle.dshot.specs.Answers.{frame_error_number, packet_answer, kind_of, words, lane_of, timing_error_number, timing_of, timing_answer, encoded_number, first_answer, run_of, command_of, next_of, read_error_number, frame_answer}
 use Rattle.dshot.specs.declared.DshotFrameError.{DshotFrameError}
 use Rattle.dshot.specs.declared.DshotFrameError.TheVariants.{ValueOutOfRange}

@@ -8,7 +8,6 @@ use Rattle.dshot_spec.specs.Packet.{Kind, plain, inverted, Frame}
 use Rattle.dshot_spec.specs.Packet as Packet
 use Rattle.dshot_spec.specs.Timing.{Timing}
 use Rattle.dshot_spec.specs.Command.{CommandRun, Command, send, Next}
-use Rattle.dshot_spec.specs.Command as Command
 use Rattle.dshot.specs.declared.DshotFrameError.{DshotFrameError}
 use Rattle.dshot.specs.declared.DshotFrameError.TheVariants.{ValueOutOfRange}
 use Rattle.dshot.specs.declared.DshotPacket.{DshotPacket}

@@ -5,6 +5,7 @@
 // DShot frames: the packet word of a value, its timer counts and duties, and runs of special commands.
 //
 // The source's requirements: OUTPUT-001, OUTPUT-002, OUTPUT-004, OUTPUT-005, OUTPUT-006, OUTPUT-007, OUTPUT-008, OUTPUT-009. Safety-critical.
+#![tactic(auto)]
 
 ghost use Rattle.std.specs.Prelude.{◌≡◌, ◌+◌, ◌-◌, ◌%◌, ◌<◌, ◌≤◌, min, nat_lt};
 ghost use Rattle.dshot_reply_spec.specs.Answer.{refusal_number, filled, if◌then◌else◌};

@@ -55,7 +55,7 @@ use Rattle.dshot_bank.specs.declared.replies.TakenReply.{TakenReply}
 use Rattle.dshot_bank.specs.declared.replies.DshotReplyStats.{DshotReplyStats}
 use Rattle.dshot_bank.specs.Answers.{enabled_answer, throttled_answer, special_answer, requested_answer, taken_answer, reply_stats_of}
 use Rattle.dshot_bank.specs.Views.{view_answer}
-use Rattle.dshot_bank.specs.Orders.{orders_in, Just}
+use Rattle.dshot_bank.specs.Orders.{Just}
 use Rattle.dshot_bank.specs.Serves.{service_event_of, service_answer}
 use Rattle.dshot_bank.specs.Interrupts.{interrupt_event_of, interrupt_answer}
 use Rattle.dshot_bank.proofs.LeaseLaws.{lease-held}

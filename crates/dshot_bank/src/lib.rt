@@ -12,6 +12,7 @@
 // replies; the set completes when every sample window has. The replies are decoded at the next `service`, outside the DMA interrupts. A missing
 // or bad reply is counted, never a fault; a lane that cannot turn around, or a stream that never completes, faults the bank as a transmit fault
 // does.
+#![tactic(auto)]
 
 ghost use Rattle.std.specs.Prelude.{◌≡◌, false, replicate};
 ghost use Rattle.dshot_bank_spec.specs.Commands.{from_lanes, fallback_release_due};

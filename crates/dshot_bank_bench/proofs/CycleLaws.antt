@@ -1,7 +1,7 @@
 -- One number more, one interrupt more, one cycle more. Orders and their numbers. What is known of slices that fit. What a call returns and leaves.
 -- Assumes nothing.
-use Rattle.std.proofs.Common.{◌≡◌, ℕ, suc, ◌+◌, ◌*◌, ◌/◌, ◌%◌, ◌^◌, Bool, true, false, eqb, List, [], ◌∷◌, length, get_or, sym, refl, ap, ◌∙◌, add-one, arith, eqb-true}
-use Rattle.dshot_reply_spec.specs.Answer.{Answer, given, refused, refusal_number, filled, if◌then◌else◌}
+use Rattle.std.proofs.Common.{◌≡◌, ℕ, suc, ◌+◌, ◌*◌, ◌/◌, ◌%◌, ◌^◌, Bool, true, false, eqb, List, [], ◌∷◌, length, get_or, refl, ap, ◌∙◌, add-one, arith, eqb-true}
+use Rattle.dshot_reply_spec.specs.Answer.{Answer, given, refused, refusal_number, filled}
 use Rattle.dshot_reply_spec.proofs.Answered.{refused-so, given_so}
 use Rattle.dshot_spec.specs.Tabulate.{part}
 use Rattle.dshot_bank_spec.specs.Calls as Calls

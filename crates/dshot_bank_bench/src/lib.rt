@@ -1,4 +1,5 @@
 // Only for bench/: the cycles of a bank in a loop of the library's own. So the benchmark measures the bank, and not its calls from C.
+#![tactic(auto)]
 
 ghost use Rattle.std.specs.Prelude.{◌≡◌, ◌*◌, ◌≤◌, true, false, not, length, replicate, ◌==◌};
 ghost use Rattle.dshot_reply_spec.specs.Answer.{refusal_number, filled};

@@ -13,9 +13,9 @@ use Rattle.dshot_bank_spec.specs.State.{Demand, MotorRun, Frame, Core, LaneReply
 use Rattle.dshot_bank_spec.specs.Lanes.{position}
 use Rattle.dshot_bank_spec.specs.With.{with_frame, with_replies_held, with_replies_waiting}
 use Rattle.dshot_bank_spec.specs.Commands.{MotorCommand, any_requested, command_stop, clear_request_sent, next_of_run, next_command_frame}
-use Rattle.dshot_bank_spec.specs.FrameSet.{frame_set, next_set}
+use Rattle.dshot_bank_spec.specs.FrameSet.{frame_set}
 use Rattle.dshot_bank_spec.specs.Send.{Sent, latch_fault, exchange_refused, frame_started, exchange_buffers, send_requested}
-use Rattle.dshot_bank_spec.specs.Service.{faulted, Skipped, Served, count_busy_skip, count_timeout, demand_expired, expire_lease, service_busy, replies_read, serviceCore}
+use Rattle.dshot_bank_spec.specs.Service.{faulted, Skipped, Served, demand_expired, expire_lease, service_busy, replies_read, serviceCore}
 use Rattle.dshot_bank_spec.specs.SentClaim.{sending_core}
 use Rattle.dshot_bank_spec.specs.LeaseClaim.{no_throttle, LeaseEnds}
 use Rattle.dshot_bank_spec.proofs.LaneLaws.{either}

@@ -11,7 +11,6 @@ use Rattle.dshot_spec.specs.Timing.{Timing}
 use Rattle.dshot_spec.specs.Lease.{elapsed}
 use Rattle.dshot_spec.specs.Throttle.{throttle_values}
 use Rattle.dshot_spec.specs.Command.{CommandRun, Command, send, next_value}
-use Rattle.dshot_spec.specs.Command as Command
 use Rattle.dshot_bank_spec.specs.Lanes.{any, is_some}
 use Rattle.dshot_bank_spec.specs.State.{Demand, MotorRun, Core, LaneReply, Bank}
 use Rattle.dshot_bank_spec.specs.With.{with_demand, with_telemetry, with_command_sequence, with_frame, with_bidirectional}

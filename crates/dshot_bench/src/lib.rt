@@ -1,5 +1,6 @@
 // Only for bench/: the packets of four motors and their sequences, built by the library's own code. So the benchmark measures that code, and not five
 // calls from C.
+#![tactic(auto)]
 
 ghost use Rattle.std.specs.Prelude.{◌≡◌, ◌++◌, ◌+◌, ◌*◌, ◌<◌, length, take, drop, set};
 ghost use Rattle.dshot_reply_spec.specs.Answer.{refusal_number, filled};

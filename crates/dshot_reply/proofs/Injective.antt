@@ -1,6 +1,6 @@
 -- The definitions that give each enum document 01's numbers and values are injective. So the equation of a promise determines the answer.
 -- Assumes nothing.
-use mathlib.Core.Path.{◌≡◌, refl, sym, ap, ◌∙◌}
+use mathlib.Core.Path.{◌≡◌, refl, ap}
 use Prim.Native.Nat.{ℕ}
 use lib.Dec.{eqb}
 use Rattle.dshot_reply_spec.proofs.Inverse.{injective}

@@ -16,6 +16,7 @@
 // The sampling layer follows Betaflight's `drivers/dshot_bitbang_decode.c`, and the value layer its `drivers/dshot.c`, at commit `41a5b43`.
 //
 // The source's requirements: OUTPUT-003, OUTPUT-010, OUTPUT-011, OUTPUT-012, OUTPUT-013. Safety-critical.
+#![tactic(auto)]
 
 ghost use Rattle.std.specs.Prelude.{◌≡◌, ◌+◌, ◌*◌, ◌-◌, ◌^◌, ◌≤◌, ◌<◌, min, true, length, drop};
 ghost use Rattle.dshot_reply_spec.specs.Gcr.{symbol_of, nibble_of, reply_word, decode_word};

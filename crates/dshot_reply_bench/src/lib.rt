@@ -1,4 +1,5 @@
 // Only for bench/: many calls of one function in a loop of the library's own. So the benchmark measures the call, and not the way to it from C.
+#![tactic(auto)]
 
 ghost use Rattle.std.specs.Prelude.{◌≡◌};
 ghost use Rattle.dshot_reply_spec.specs.Gcr.{decode_word};

@@ -1,6 +1,6 @@
 -- The level of a signal at a time, over the list of its changes, and samples of it (document 02). Nothing here knows how a text is read.
 -- Assumes nothing.
-use Rattle.std.specs.Prelude.{ℕ, zero, suc, ◌+◌, Bool, true, false, List, [], ◌∷◌, leb, ltb}
+use Rattle.std.specs.Prelude.{ℕ, zero, suc, ◌+◌, List, [], ◌∷◌, leb, ltb}
 use Rattle.dshot_reply_spec.specs.Answer.{if◌then◌else◌}
 use Rattle.dump_spec.specs.Signal.{Change}
 

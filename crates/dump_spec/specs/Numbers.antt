@@ -1,6 +1,6 @@
 -- Numbers in a dump: decimals, of any number of digits, and reals as printf writes them with %.16g.
 -- Assumes nothing.
-use Rattle.std.specs.Prelude.{ℕ, ◌+◌, ◌-◌, ◌*◌, ◌^◌, Bool, true, false, List, [], ◌∷◌, map, eqb, leb, ltb}
+use Rattle.std.specs.Prelude.{ℕ, ◌+◌, ◌-◌, ◌*◌, ◌^◌, Bool, true, false, [], ◌∷◌, map, eqb, leb, ltb}
 use Rattle.dshot_reply_spec.specs.Answer.{Answer, given, refused, if◌then◌else◌}
 use Rattle.dshot_reply_spec.specs.Ascii.{ascii}
 use Rattle.dshot_reply_spec.specs.Refusals.{broken_dump}

@@ -1,6 +1,6 @@
 -- `dshot::duty_slot` meets its contract.
 -- Assumes nothing.
-use Rattle.std.proofs.Common.{rules, le-ltb, lt-ltb}
+use Rattle.std.proofs.Common.{le-ltb, lt-ltb}
 use Rattle.dshot.proofs.duty_slot.Goals as goal
 
 pub returns-then-index-bits : goal.returns-then-index-bits

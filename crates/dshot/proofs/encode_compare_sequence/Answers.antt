@@ -1,10 +1,10 @@
 -- `dshot::encode_compare_sequence` meets its contract: before each turn of the loop the slots so far are filled, and the others are as they were.
 -- Assumes nothing.
-use Rattle.std.proofs.Common.{◌≡◌, ℕ, ◌-◌, ltb, length, sym, ap, ◌∙◌, rules, eq-eqb, ne_eqb}
+use Rattle.std.proofs.Common.{◌≡◌, length, sym, ap, ◌∙◌, eq-eqb, ne_eqb}
 use Rattle.dshot_reply_spec.specs.Answer.{given, refused, filled, pick}
 use Rattle.dshot_reply_spec.specs.Refusals.{wrong_length}
-use Rattle.dshot_spec.proofs.Tabulated.{Filled, filled_none, filled_more, filled-all}
-use Rattle.dshot_spec.specs.Sequence.{Sequence, is_set, sequence_of, encoded_sequence, first_duty}
+use Rattle.dshot_spec.proofs.Tabulated.{filled_none, filled_more, filled-all}
+use Rattle.dshot_spec.specs.Sequence.{Sequence, sequence_of, encoded_sequence, first_duty}
 use Rattle.dshot_spec.specs.Tabulate.{tabulate}
 use Rattle.dshot.specs.Answers.{timing_of}
 use Rattle.dshot.proofs.encode_compare_sequence.Invariants.{slot}

@@ -1,10 +1,10 @@
 -- `dshot::packets_of_kind` meets its contract: before each turn of the loop the packets of the lanes so far are made.
 -- Assumes nothing.
-use Rattle.std.proofs.Common.{◌≡◌, ℕ, ◌-◌, get_or, refl, ap, ◌∙◌, rules}
+use Rattle.std.proofs.Common.{◌≡◌, get_or, refl, ap, ◌∙◌}
 use Rattle.dshot_spec.specs.Packet.{packet_word, asks, motor_packets}
-use Rattle.dshot_spec.proofs.Tabulated.{Filled, filled_none, filled_more, filled-all}
+use Rattle.dshot_spec.proofs.Tabulated.{filled_none, filled_more, filled-all}
 use Rattle.dshot.proofs.PacketLaws.{words-set}
-use Rattle.dshot.specs.Answers.{kind_of, lane_of, words}
+use Rattle.dshot.specs.Answers.{kind_of, lane_of}
 use Rattle.dshot.proofs.packets_of_kind.Goals as goal
 
 pub loop-index-init : goal.loop-index-init

@@ -1,8 +1,7 @@
 -- `dshot::packets_of_kind` meets its contract: before each turn of the loop the packets of the lanes so far are made.
-use Rattle.std.proofs.Common.{◌≡◌, ℕ, ◌-◌, get_or, refl, ap, ◌∙◌, rules}
-use Rattle.dshot_spec.specs.Packet.{packet_word, asks, motor_packets}
-use Rattle.dshot_spec.proofs.Tabulated.{Filled, filled_none, filled_more, filled-all}
-use Rattle.dshot.proofs.PacketLaws.{words-set}
+use Rattle.std.proofs.Common.{ℕ, ◌-◌, get_or}
+use Rattle.dshot_spec.specs.Packet.{packet_word, asks}
+use Rattle.dshot_spec.proofs.Tabulated.{Filled}
 use Rattle.dshot.specs.Answers.{kind_of, lane_of, words}
 use Rattle.dshot.proofs.packets_of_kind.Given as goal
 

@@ -1,6 +1,6 @@
 -- `dshot::throttle_to_dshot` meets its contract.
 -- Assumes nothing.
-use Rattle.std.proofs.Common.{rules, eq-eqb, ne_eqb}
+use Rattle.std.proofs.Common.{eq-eqb, ne_eqb}
 use Rattle.dshot_spec.specs.Throttle.{throttle_value}
 use Rattle.dshot.proofs.throttle_to_dshot.Goals as goal
 

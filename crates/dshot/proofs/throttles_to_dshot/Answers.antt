@@ -1,8 +1,8 @@
 -- `dshot::throttles_to_dshot` meets its contract: before each turn of the loop the values of the lanes so far are made.
 -- Assumes nothing.
-use Rattle.std.proofs.Common.{ℕ, ◌-◌, get_or, rules}
-use Rattle.dshot_spec.specs.Throttle.{throttle_value, throttle_values}
-use Rattle.dshot_spec.proofs.Tabulated.{Filled, filled_none, filled_more, filled-all}
+use Rattle.std.proofs.Common.{rules}
+use Rattle.dshot_spec.specs.Throttle.{throttle_values}
+use Rattle.dshot_spec.proofs.Tabulated.{filled_none, filled_more, filled-all}
 use Rattle.dshot.proofs.throttles_to_dshot.Goals as goal
 
 pub loop-index-init : goal.loop-index-init

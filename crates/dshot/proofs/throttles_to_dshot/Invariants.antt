@@ -1,7 +1,7 @@
 -- `dshot::throttles_to_dshot` meets its contract: before each turn of the loop the values of the lanes so far are made.
-use Rattle.std.proofs.Common.{ℕ, ◌-◌, get_or, rules}
-use Rattle.dshot_spec.specs.Throttle.{throttle_value, throttle_values}
-use Rattle.dshot_spec.proofs.Tabulated.{Filled, filled_none, filled_more, filled-all}
+use Rattle.std.proofs.Common.{ℕ, ◌-◌, get_or}
+use Rattle.dshot_spec.specs.Throttle.{throttle_value}
+use Rattle.dshot_spec.proofs.Tabulated.{Filled}
 use Rattle.dshot.proofs.throttles_to_dshot.Given as goal
 
 abbrev pub invariant-loop-index : goal.invariant-loop-index

@@ -1,6 +1,6 @@
 -- `dshot_bank_bench::add_duties` meets its contract.
 -- Assumes nothing.
-use Rattle.std.proofs.Common.{◌≡◌, ℕ, ◌+◌, ◌%◌, ◌^◌, length, get_or, sym, ap, ◌∙◌, rules}
+use Rattle.std.proofs.Common.{ℕ, ◌+◌, ◌%◌, ◌^◌, get_or, sym, ap, ◌∙◌, rules}
 use Rattle.dshot_bank_bench.specs.Cycles.{add_all}
 use Rattle.dshot_bank_bench.proofs.CycleLaws.{four}
 use Rattle.dshot_bank_bench.proofs.add_duties.Goals as goal

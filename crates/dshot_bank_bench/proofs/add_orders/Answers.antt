@@ -1,6 +1,6 @@
 -- `dshot_bank_bench::add_orders` meets its contract: what is left of the orders is added to the sum so far.
 -- Assumes nothing.
-use Rattle.std.proofs.Common.{◌≡◌, ℕ, suc, ◌+◌, ◌-◌, ◌/◌, ◌≤◌, sym, ap, ◌∙◌, arith, rules}
+use Rattle.std.proofs.Common.{◌≡◌, ℕ, suc, ◌+◌, ◌-◌, ◌/◌, sym, ap, ◌∙◌, arith}
 use Rattle.dshot_bank_bench.specs.Cycles.{add_all, numbers_in}
 use Rattle.dshot_bank_bench.proofs.CycleLaws.{add-next, add-end}
 use Rattle.dshot_bank_bench.proofs.add_orders.Goals as goal

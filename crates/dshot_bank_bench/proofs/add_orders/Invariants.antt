@@ -1,7 +1,6 @@
 -- `dshot_bank_bench::add_orders` meets its contract: what is left of the orders is added to the sum so far.
-use Rattle.std.proofs.Common.{◌≡◌, ℕ, suc, ◌+◌, ◌-◌, ◌/◌, ◌≤◌, sym, ap, ◌∙◌, arith, rules}
+use Rattle.std.proofs.Common.{◌≡◌, ◌-◌, ◌≤◌}
 use Rattle.dshot_bank_bench.specs.Cycles.{add_all, numbers_in}
-use Rattle.dshot_bank_bench.proofs.CycleLaws.{add-next, add-end}
 use Rattle.dshot_bank_bench.proofs.add_orders.Given as goal
 
 abbrev pub invariant-loop-i : goal.invariant-loop-i

@@ -1,9 +1,8 @@
 -- `dshot_bank_bench::bench_bank_cycles` meets its contract.
 -- Assumes nothing.
-use Rattle.std.proofs.Common.{◌≡◌, ℕ, ◌*◌, ◌/◌, Bool, true, not, eqb, length, sym, refl, ap, ◌∙◌, arith, rules}
+use Rattle.std.proofs.Common.{◌/◌, not, eqb, length, sym, refl, ap, ◌∙◌, arith}
 use borrow.Author.Tests.{not-true, not-false}
-use Rattle.dshot_reply_spec.specs.Answer.{Answer, given, refused}
-use Rattle.dshot_reply_spec.specs.Refusals.{wrong_length}
+use Rattle.dshot_reply_spec.specs.Answer.{given}
 use Rattle.dshot_bank_spec.proofs.LaneLaws.{on, off}
 use Rattle.dshot_bank_spec.specs.State.{Buffers}
 use Rattle.dshot_bank_bench.specs.Cycles.{Run, cycles, asked}

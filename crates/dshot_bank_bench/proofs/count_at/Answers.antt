@@ -1,6 +1,6 @@
 -- `dshot_bank_bench::count_at` meets its contract.
 -- Assumes nothing.
-use Rattle.std.proofs.Common.{◌≡◌, ℕ, ◌/◌, ◌%◌, get_or, sym, ap, ◌∙◌, rules, ne_eqb}
+use Rattle.std.proofs.Common.{◌≡◌, ℕ, ◌/◌, ◌%◌, get_or, sym, ap, ◌∙◌, ne_eqb}
 use lib.ListN.{get_or-map}
 use Rattle.dshot_bank_spec.specs.State as Spec
 use Rattle.dshot_bank.specs.declared.DshotBank.{DshotBank}

@@ -1,8 +1,7 @@
 -- `dshot_bank_bench::cycles_from` meets its contract: before each turn of the loop the run is after the cycles so far.
 -- Assumes nothing.
-use Rattle.std.proofs.Common.{◌≡◌, ℕ, ◌+◌, ◌-◌, ◌*◌, ◌≤◌, List, length, take, drop, sym, refl, ap, ◌∙◌, arith, rules}
-use Rattle.dshot_bank_bench.specs.Cycles.{Run, throttles_at, cycle, cycles}
-use Rattle.dshot_bank_bench.specs.Runs.{run_of}
+use Rattle.std.proofs.Common.{◌≡◌, ◌+◌, ◌-◌, ◌*◌, take, drop, sym, refl, ap, ◌∙◌, arith, rules}
+use Rattle.dshot_bank_bench.specs.Cycles.{throttles_at, cycle, cycles}
 use Rattle.dshot_bank_bench.proofs.CycleLaws.{cycles-more}
 use Rattle.dshot_bank_bench.proofs.cycles_from.Goals as goal
 

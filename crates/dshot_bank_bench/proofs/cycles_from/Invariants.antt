@@ -1,8 +1,7 @@
 -- `dshot_bank_bench::cycles_from` meets its contract: before each turn of the loop the run is after the cycles so far.
-use Rattle.std.proofs.Common.{◌≡◌, ℕ, ◌+◌, ◌-◌, ◌*◌, ◌≤◌, List, length, take, drop, sym, refl, ap, ◌∙◌, arith, rules}
-use Rattle.dshot_bank_bench.specs.Cycles.{Run, throttles_at, cycle, cycles}
+use Rattle.std.proofs.Common.{◌≡◌, ◌-◌, ◌≤◌, length}
+use Rattle.dshot_bank_bench.specs.Cycles.{Run, cycles}
 use Rattle.dshot_bank_bench.specs.Runs.{run_of}
-use Rattle.dshot_bank_bench.proofs.CycleLaws.{cycles-more}
 use Rattle.dshot_bank_bench.proofs.cycles_from.Given as goal
 
 abbrev pub invariant-loop-n : goal.invariant-loop-n

@@ -1,6 +1,6 @@
 -- `dshot_bank_bench::lengths_fit` meets its contract.
 -- Assumes nothing.
-use Rattle.std.proofs.Common.{refl, rules, eq-eqb, ne_eqb}
+use Rattle.std.proofs.Common.{eq-eqb, ne_eqb}
 use Rattle.dshot_bank_bench.specs.Cycles.{fit}
 use Rattle.dshot_bank_bench.proofs.lengths_fit.Goals as goal
 

@@ -1,6 +1,6 @@
 -- `dshot_bank_bench::new_run` meets its contract.
 -- Assumes nothing.
-use Rattle.std.proofs.Common.{not, eqb, ap, ◌∙◌, rules}
+use Rattle.std.proofs.Common.{not, eqb, ap, ◌∙◌}
 use Rattle.dshot_bank_spec.specs.State.{Bank}
 use Rattle.dshot_bank_spec.specs.Calls.{State, Stepped, enable_bidirectional_call}
 use Rattle.dshot_bank_spec.specs.Steps.{step}

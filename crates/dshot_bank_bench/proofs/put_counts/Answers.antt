@@ -1,9 +1,6 @@
 -- `dshot_bank_bench::put_counts` meets its contract: before each turn of the loop the counts so far are put.
 -- Assumes nothing.
-use Rattle.std.proofs.Common.{◌-◌, rules}
-use Rattle.dshot_spec.proofs.Tabulated.{Filled, filled_none, filled_more, filled-all}
-use Rattle.dshot_bank.specs.States.{bank_of}
-use Rattle.dshot_bank_bench.specs.Cycles.{count_at}
+use Rattle.dshot_spec.proofs.Tabulated.{filled_none, filled_more, filled-all}
 use Rattle.dshot_bank_bench.proofs.put_counts.Goals as goal
 
 pub loop-i-init : goal.loop-i-init

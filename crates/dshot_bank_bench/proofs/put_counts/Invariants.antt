@@ -1,6 +1,6 @@
 -- `dshot_bank_bench::put_counts` meets its contract: before each turn of the loop the counts so far are put.
-use Rattle.std.proofs.Common.{◌-◌, rules}
-use Rattle.dshot_spec.proofs.Tabulated.{Filled, filled_none, filled_more, filled-all}
+use Rattle.std.proofs.Common.{◌-◌}
+use Rattle.dshot_spec.proofs.Tabulated.{Filled}
 use Rattle.dshot_bank.specs.States.{bank_of}
 use Rattle.dshot_bank_bench.specs.Cycles.{count_at}
 use Rattle.dshot_bank_bench.proofs.put_counts.Given as goal

@@ -1,25 +1,21 @@
 -- `dshot_bench::bench_four_sequences` meets its contract: before each turn of the loop the sequences of the lanes so far stand in their parts.
 -- Assumes nothing.
 use mathlib.Core.Path.{◌≡◌, sym, ap, ◌∙◌}
-use mathlib.Core.List.{List}
-use Prim.Native.Nat.{ℕ, ◌-◌}
+use Prim.Native.Nat.{ℕ}
 use lib.ListN.{length, get_or, get_or-map}
 use borrow.Author.Tests.{eq-eqb, ne_eqb}
 use Rattle.dshot_reply_spec.proofs.Answered.{refused-both, given_both}
 use Rattle.dshot_reply_spec.specs.Answer.{given, refused}
 use Rattle.dshot_reply_spec.specs.Refusals.{wrong_length}
-use Rattle.dshot_spec.proofs.Tabulated.{Filled, filled_none, filled_more, filled-all}
+use Rattle.dshot_spec.proofs.Tabulated.{filled_none, filled_more, filled-all}
 use Rattle.dshot_spec.specs.Packet.{motor_packets, inverted, lane}
 use Rattle.dshot_spec.specs.Sequence.{sequence_of}
 use Rattle.dshot_spec.specs.Tabulate.{tabulate}
-use Rattle.dshot_spec.specs.Timing.{Timing}
-use Rattle.dshot.specs.Answers.{timing_of, words}
+use Rattle.dshot.specs.Answers.{words}
 use Rattle.dshot.specs.declared.DshotPacket.{DshotPacket}
 use Rattle.dshot_bench.specs.Sequences.{timing_of_counts, built, firsts_of, slots_of}
-use Rattle.dshot_bench.proofs.JoinedLaws.{Joined, joined-none, joined-more, joined-all}
+use Rattle.dshot_bench.proofs.JoinedLaws.{joined-none, joined-more, joined-all}
 use Rattle.dshot_spec.proofs.SequenceReads.{sequence-slots}
-use borrow.Author.Rules.{rules}
-use Rattle.dshot_bench.proofs.bench_four_sequences.Invariants.{slots_at, first_at}
 use Rattle.dshot_bench.proofs.bench_four_sequences.Goals as goal
 
 abbrev none : DshotPacket

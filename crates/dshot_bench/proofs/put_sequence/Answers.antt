@@ -11,7 +11,6 @@ use Rattle.dshot_reply_spec.specs.Answer.{given, filled}
 use Rattle.dshot_spec.specs.Sequence.{Sequence, sequence_of, encoded_sequence, first_duty}
 use Rattle.dshot_spec.specs.Timing.{Timing}
 use Rattle.dshot.specs.Answers.{first_answer, timing_of}
-use borrow.Author.Rules.{rules}
 use Rattle.dshot_bench.proofs.put_sequence.Goals as goal
 
 -- the slots of a lane, as they are lent on

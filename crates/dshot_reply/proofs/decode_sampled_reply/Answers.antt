@@ -2,7 +2,6 @@
 -- Assumes nothing.
 use mathlib.Core.Path.{sym, ap, ◌∙◌}
 use Prim.Native.Nat.{ℕ}
-use borrow.Author.Rules.{rules}
 use Rattle.dshot_reply_spec.specs.Answer.{Answer, and_then}
 use Rattle.dshot_reply_spec.specs.Reading.{sampled_reply, word_reply}
 use Rattle.dshot_reply.specs.Answers.{transitions_answer}

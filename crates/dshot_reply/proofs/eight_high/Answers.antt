@@ -1,12 +1,8 @@
 -- `dshot_reply::eight_high` meets its contract.
 -- Assumes nothing.
 use mathlib.Core.Path.{◌≡◌, subst}
-use mathlib.Core.Bool.{true}
-use Prim.Native.Nat.{◌-◌, ◌≤◌}
 use native.Mathlib.Omega.{arith}
 use borrow.Author.Rules.{rules}
-use Rattle.dshot_reply_spec.proofs.Table.{at}
-use Rattle.dshot_reply_spec.specs.Runs.{high}
 use Rattle.dshot_reply.proofs.Levels.{HighFor, high-more, high-none}
 use Rattle.dshot_reply.proofs.eight_high.Goals as goal
 

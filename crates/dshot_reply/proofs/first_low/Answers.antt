@@ -2,7 +2,6 @@
 -- Assumes nothing.
 use native.Mathlib.Omega.{arith}
 use lib.ListN.{drop}
-use borrow.Author.Rules.{rules}
 use Rattle.dshot_reply_spec.specs.Runs.{levels}
 use Rattle.dshot_reply.proofs.Levels.{low-ends-high}
 use Rattle.dshot_reply.proofs.first_low.Goals as goal

@@ -1,6 +1,5 @@
 -- `dshot_reply::next_edge` meets its contract: in each arm the level is the fixed one.
 -- Assumes nothing.
-use borrow.Author.Rules.{rules}
 use Rattle.dshot_reply.proofs.next_edge.Goals as goal
 
 pub returns-then-level : goal.returns-then-level

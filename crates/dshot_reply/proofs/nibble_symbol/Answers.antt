@@ -1,6 +1,5 @@
 -- `dshot_reply::nibble_symbol` meets its contract.
 -- Assumes nothing.
-use borrow.Author.Rules.{rules}
 use Rattle.dshot_reply.proofs.nibble_symbol.Goals as goal
 
 pub returns : goal.returns

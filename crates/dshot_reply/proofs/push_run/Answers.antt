@@ -1,6 +1,5 @@
 -- `dshot_reply::push_run` meets its contract.
 -- Assumes nothing.
-use borrow.Author.Rules.{rules}
 use Rattle.dshot_reply.proofs.WordLaws.{push-or}
 use Rattle.dshot_reply.proofs.push_run.Goals as goal
 

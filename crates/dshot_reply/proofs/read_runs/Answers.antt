@@ -1,16 +1,12 @@
 -- `dshot_reply::read_runs` meets its contract: what is left to read is assembled after what has been read, and each run adds a bit or more.
 -- Assumes nothing.
-use mathlib.Core.Path.{◌≡◌, sym, ◌∙◌}
-use Prim.Native.Nat.{◌+◌, ◌-◌, ◌^◌, ◌≤◌, ◌<◌}
+use mathlib.Core.Path.{sym, ◌∙◌}
 use native.Mathlib.Omega.{arith}
 use mathlib.Core.Bool.{false, not}
-use lib.ListN.{length, drop}
 use borrow.Author.Rules.{rules}
-use Rattle.dshot_reply_spec.specs.Runs.{assemble, levels, runs_of}
 use Rattle.dshot_reply.proofs.Levels.{ends-within}
-use Rattle.dshot_reply.proofs.RunLaws.{rest, rest_end, rest_over, rest-run, rest-start}
+use Rattle.dshot_reply.proofs.RunLaws.{rest_end, rest_over, rest-run, rest-start}
 use Rattle.dshot_reply.proofs.WordLaws.{push-lt, push-room}
-use Rattle.dshot_reply.specs.Steps.{same_for}
 use Rattle.dshot_reply.proofs.read_runs.Goals as goal
 
 pub loop-edge-init : goal.loop-edge-init

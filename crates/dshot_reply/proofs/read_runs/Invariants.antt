@@ -1,14 +1,9 @@
 -- `dshot_reply::read_runs` meets its contract: what is left to read is assembled after what has been read, and each run adds a bit or more.
-use mathlib.Core.Path.{◌≡◌, sym, ◌∙◌}
+use mathlib.Core.Path.{◌≡◌}
 use Prim.Native.Nat.{◌+◌, ◌-◌, ◌^◌, ◌≤◌, ◌<◌}
-use native.Mathlib.Omega.{arith}
-use mathlib.Core.Bool.{false, not}
 use lib.ListN.{length, drop}
-use borrow.Author.Rules.{rules}
 use Rattle.dshot_reply_spec.specs.Runs.{assemble, levels, runs_of}
-use Rattle.dshot_reply.proofs.Levels.{ends-within}
-use Rattle.dshot_reply.proofs.RunLaws.{rest, rest_end, rest_over, rest-run, rest-start}
-use Rattle.dshot_reply.proofs.WordLaws.{push-lt, push-room}
+use Rattle.dshot_reply.proofs.RunLaws.{rest}
 use Rattle.dshot_reply.specs.Steps.{same_for}
 use Rattle.dshot_reply.proofs.read_runs.Given as goal
 

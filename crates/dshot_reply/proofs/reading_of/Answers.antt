@@ -1,7 +1,6 @@
 -- `dshot_reply::reading_of` meets its contract.
 -- Assumes nothing.
 use borrow.Author.Tests.{eq-eqb, ne_eqb}
-use borrow.Author.Rules.{rules}
 use Rattle.dshot_reply_spec.specs.Value.{reading_of}
 use Rattle.dshot_reply.proofs.reading_of.Goals as goal
 

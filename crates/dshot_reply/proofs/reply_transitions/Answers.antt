@@ -7,7 +7,6 @@ use Prim.Native.Nat.{ℕ, ◌+◌, ◌-◌, min}
 use native.Mathlib.Omega.{arith}
 use lib.ListN.{length, take, drop}
 use lib.Seq.{length-take-le}
-use borrow.Author.Rules.{rules}
 use Rattle.dshot_reply_spec.specs.Runs.{assemble, levels, runs_of}
 use Rattle.dshot_reply.proofs.Levels.{a-start, levels-most, start-found, start-most, start_none}
 use Rattle.dshot_reply.proofs.reply_transitions.Goals as goal

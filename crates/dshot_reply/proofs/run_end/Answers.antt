@@ -1,14 +1,9 @@
 -- `dshot_reply::run_end` meets its contract: all samples from `from` to `i` are at the level.
 -- Assumes nothing.
-use mathlib.Core.Path.{◌≡◌}
-use Prim.Native.Nat.{◌+◌, ◌-◌, ◌≤◌}
 use native.Mathlib.Omega.{arith}
-use lib.ListN.{length, drop}
 use borrow.Author.Rules.{rules}
 use borrow.Author.Tests.{not-true, not-false}
-use Rattle.dshot_reply_spec.specs.Runs.{levels}
 use Rattle.dshot_reply.proofs.Levels.{same_end, same_ends, same_more}
-use Rattle.dshot_reply.specs.Steps.{same_for}
 use Rattle.dshot_reply.proofs.run_end.Goals as goal
 
 pub returns-then-is_high-level : goal.returns-then-is_high-level

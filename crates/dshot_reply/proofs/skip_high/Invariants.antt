@@ -1,10 +1,7 @@
 -- `dshot_reply::skip_high` meets its contract.
 use mathlib.Core.Path.{◌≡◌}
 use Prim.Native.Nat.{◌+◌, ◌-◌, ◌≤◌}
-use native.Mathlib.Omega.{arith}
 use lib.ListN.{length, drop}
-use borrow.Author.Tests.{not-false}
-use borrow.Author.Rules.{rules}
 use Rattle.dshot_reply_spec.specs.Runs.{first_low, levels}
 use Rattle.dshot_reply.proofs.skip_high.Given as goal
 

@@ -1,7 +1,6 @@
 -- `dshot_reply::speed_of` meets its contract.
 -- Assumes nothing.
 use borrow.Author.Tests.{eq-eqb, ne_eqb}
-use borrow.Author.Rules.{rules}
 use Rattle.dshot_reply_spec.specs.Value.{speed_of}
 use Rattle.dshot_reply.proofs.speed_of.Goals as goal
 

@@ -3,7 +3,6 @@
 use mathlib.Core.Path.{◌∙◌}
 use lib.Dec.{lit≤}
 use borrow.Author.Tests.{eq-eqb, ne_eqb}
-use borrow.Author.Rules.{rules}
 use Rattle.dshot_reply_spec.specs.Value.{speed_value}
 use Rattle.dshot_reply.proofs.WordLaws.{period-lt, period-shl}
 use Rattle.dshot_reply.proofs.speed_value.Goals as goal

@@ -1,6 +1,6 @@
 -- `dshot_reply_bench::bench_decode_gcr` meets its contract: what is left of the words is added to the sum so far.
 -- Assumes nothing.
-use Rattle.std.proofs.Common.{◌≡◌, ℕ, ◌+◌, ◌-◌, ◌%◌, ◌^◌, ◌≤◌, length, get_or, drop, sym, ap, ◌∙◌, arith, rules}
+use Rattle.std.proofs.Common.{◌≡◌, ℕ, ◌+◌, ◌%◌, ◌^◌, get_or, drop, sym, ap, ◌∙◌, arith, rules}
 use Rattle.dshot_reply_spec.specs.Gcr.{decode_word}
 use Rattle.dshot_reply_bench.specs.Total.{packed, total_from}
 use Rattle.dshot_reply_bench.proofs.TotalLaws.{total-next, total-end}

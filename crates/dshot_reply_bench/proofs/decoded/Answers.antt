@@ -1,6 +1,6 @@
 -- `dshot_reply_bench::decoded` meets its contract: the answer as one number, which fits.
 -- Assumes nothing.
-use Rattle.std.proofs.Common.{ℕ, ◌*◌, sym, ap, ◌∙◌, arith, rules}
+use Rattle.std.proofs.Common.{ℕ, ◌*◌, sym, ap, ◌∙◌, arith}
 use Rattle.dshot_reply.specs.Answers.{decoded_answer}
 use Rattle.dshot_reply_bench.specs.Total.{packed}
 use Rattle.dshot_reply_bench.proofs.TotalLaws.{number_small}

@@ -1,7 +1,7 @@
 -- `bank_slots::commands::any_above` meets its contract: a loop over four slots: no value before the lane is above the bound.
 -- Assumes nothing.
-use Rattle.dshot_bank_spec.proofs.LaneLaws.{Passed, passed_none, passed-more, any-hit, any-miss}
-use Rattle.std.proofs.Common.{◌-◌, ltb, rules, le-ltb, lt-ltb}
+use Rattle.dshot_bank_spec.proofs.LaneLaws.{passed_none, passed-more, any-hit, any-miss}
+use Rattle.std.proofs.Common.{le-ltb, lt-ltb}
 use Rattle.bank_slots.proofs.commands.any_above.Goals as goal
 
 pub loop-lane-init : goal.loop-lane-init

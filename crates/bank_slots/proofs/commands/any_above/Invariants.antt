@@ -1,6 +1,6 @@
 -- `bank_slots::commands::any_above` meets its contract: a loop over four slots: no value before the lane is above the bound.
-use Rattle.dshot_bank_spec.proofs.LaneLaws.{Passed, passed_none, passed-more, any-hit, any-miss}
-use Rattle.std.proofs.Common.{◌-◌, ltb, rules, le-ltb, lt-ltb}
+use Rattle.dshot_bank_spec.proofs.LaneLaws.{Passed}
+use Rattle.std.proofs.Common.{◌-◌, ltb}
 use Rattle.bank_slots.proofs.commands.any_above.Given as goal
 
 abbrev pub invariant-loop-lane : goal.invariant-loop-lane

@@ -1,6 +1,6 @@
 -- `bank_slots::commands::cancel_telemetry_request` meets its contract: a request withdrawn: refused, or done by `clear_request`.
 -- Assumes nothing.
-use Rattle.std.proofs.Common.{true, rules}
+use Rattle.std.proofs.Common.{true}
 use Rattle.bank_slots_spec.proofs.CommandCalls.{cancel-done}
 use Rattle.bank_slots_spec.proofs.CalledLaws.{with-answer, state-short, called-unfit}
 use Rattle.bank_slots.proofs.commands.cancel_telemetry_request.Goals as goal

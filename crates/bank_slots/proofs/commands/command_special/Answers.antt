@@ -1,6 +1,6 @@
 -- `bank_slots::commands::command_special` meets its contract: a run queued: each refusal in its turn, or done by `queue`.
 -- Assumes nothing.
-use Rattle.std.proofs.Common.{sym, ◌∙◌, rules}
+use Rattle.std.proofs.Common.{sym, ◌∙◌}
 use Rattle.bank_slots_spec.proofs.CommandCalls.{other-long, special-missing, special-faulted, special-running, special-pending, special-queued}
 use Rattle.bank_slots_spec.proofs.CalledLaws.{with-answer, state-short, called-unfit}
 use Rattle.bank_slots_spec.specs.Called.{sized}

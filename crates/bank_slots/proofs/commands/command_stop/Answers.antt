@@ -1,6 +1,6 @@
 -- `bank_slots::commands::command_stop` meets its contract: a stop: refused, or done by `stop`.
 -- Assumes nothing.
-use Rattle.std.proofs.Common.{true, rules}
+use Rattle.std.proofs.Common.{true}
 use Rattle.bank_slots_spec.proofs.CommandCalls.{stop-done}
 use Rattle.bank_slots_spec.proofs.CalledLaws.{with-answer, state-short, called-unfit}
 use Rattle.bank_slots.proofs.commands.command_stop.Goals as goal

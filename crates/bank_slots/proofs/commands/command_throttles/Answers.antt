@@ -1,6 +1,6 @@
 -- `bank_slots::commands::command_throttles` meets its contract: throttles: each refusal in its turn, or a stop, or a demand.
 -- Assumes nothing.
-use Rattle.std.proofs.Common.{not, sym, ap, ◌∙◌, rules}
+use Rattle.std.proofs.Common.{not, sym, ap, ◌∙◌}
 use Rattle.bank_slots_spec.proofs.CommandCalls.{other-long, throttles-faulted, throttles-high, throttles-stop, throttled}
 use Rattle.bank_slots_spec.proofs.CalledLaws.{with-answer, state-short, called-unfit}
 use Rattle.bank_slots_spec.specs.Called.{sized}

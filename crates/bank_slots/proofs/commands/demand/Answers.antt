@@ -1,6 +1,6 @@
 -- `bank_slots::commands::demand` meets its contract: the slots of a demand and of its lease.
 -- Assumes nothing.
-use Rattle.std.proofs.Common.{ℕ, List, refl, ap, ◌∙◌, arith, rules}
+use Rattle.std.proofs.Common.{ℕ, List, refl, ap, ◌∙◌, arith}
 use Rattle.bank_slots_spec.specs.Memory.{Row, at, write, long_rows}
 use Rattle.bank_slots_spec.specs.Places.{VALUES, LEASE_STARTED}
 use Rattle.bank_slots_spec.specs.Load.{four}

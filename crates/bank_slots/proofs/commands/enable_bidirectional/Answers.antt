@@ -1,6 +1,6 @@
 -- `bank_slots::commands::enable_bidirectional` meets its contract: bidirectional DShot: refused, or the flag set.
 -- Assumes nothing.
-use Rattle.std.proofs.Common.{true, rules}
+use Rattle.std.proofs.Common.{true}
 use Rattle.bank_slots_spec.proofs.CommandCalls.{enable-refused, enabled}
 use Rattle.bank_slots_spec.proofs.CalledLaws.{with-answer, state-short, called-unfit}
 use Rattle.bank_slots.proofs.commands.enable_bidirectional.Goals as goal

@@ -3,7 +3,7 @@
 use Rattle.bank_slots_spec.proofs.CommandCalls.{other-long, not_made, made}
 use Rattle.bank_slots_spec.proofs.CalledLaws.{state-short}
 use Rattle.bank_slots_spec.specs.Called.{sized}
-use Rattle.std.proofs.Common.{ℕ, replicate, ap, ◌∙◌, arith, length-set, rules}
+use Rattle.std.proofs.Common.{ℕ, replicate, ap, ◌∙◌, arith, length-set}
 use Rattle.bank_slots.proofs.commands.from_lanes.Goals as goal
 
 pub returns-then-bank-ne-SLOTS : goal.returns-then-bank-ne-SLOTS

@@ -1,7 +1,7 @@
 -- `bank_slots::commands::is_running` meets its contract: a lease tells that motors run, and else their values.
 -- Assumes nothing.
 use Rattle.bank_slots_spec.proofs.CommandMoves.{lease-runs, values-run}
-use Rattle.std.proofs.Common.{sym, ◌∙◌, rules}
+use Rattle.std.proofs.Common.{sym, ◌∙◌}
 use Rattle.bank_slots.proofs.commands.is_running.Goals as goal
 
 pub returns-then-long_at-ne0 : goal.returns-then-long_at-ne0

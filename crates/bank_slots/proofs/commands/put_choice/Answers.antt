@@ -1,7 +1,6 @@
 -- `bank_slots::commands::put_choice` meets its contract: a motor or none in two slots.
 -- Assumes nothing.
 use Rattle.bank_slots_spec.proofs.CommandMoves.{no-motor-told, motor-told}
-use Rattle.std.proofs.Common.{rules}
 use Rattle.bank_slots.proofs.commands.put_choice.Goals as goal
 
 pub returns-then-slot-eq0 : goal.returns-then-slot-eq0

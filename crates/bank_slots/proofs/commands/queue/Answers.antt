@@ -1,6 +1,6 @@
 -- `bank_slots::commands::queue` meets its contract: a run made of four slots, and put.
 -- Assumes nothing.
-use Rattle.std.proofs.Common.{ap, rules}
+use Rattle.std.proofs.Common.{ap}
 use Rattle.dshot_spec.specs.Command.{CommandRun}
 use Rattle.bank_slots_spec.specs.Load.{load}
 use Rattle.bank_slots_spec.specs.Moves.{on_core}

@@ -2,7 +2,7 @@
 -- Assumes nothing.
 use Rattle.bank_slots_spec.proofs.CommandCalls.{other-long, sent-taken, sent-told}
 use Rattle.bank_slots_spec.proofs.CalledLaws.{state-short, called-unfit, answer-unfit, out-kept}
-use Rattle.std.proofs.Common.{arith, rules}
+use Rattle.std.proofs.Common.{arith}
 use Rattle.bank_slots_spec.specs.Called.{sized, state_at}
 use Rattle.dshot_bank_spec.specs.Calls.{take_telemetry_request_sent}
 use Rattle.bank_slots.proofs.commands.take_telemetry_request_sent.Goals as goal

@@ -1,6 +1,6 @@
 -- `bank_slots::interrupt::after_lane` meets its contract: what follows a lane's completion: each return is a case of the tests.
 -- Assumes nothing.
-use Rattle.std.proofs.Common.{sym, refl, ◌∙◌, rules}
+use Rattle.std.proofs.Common.{sym, refl, ◌∙◌}
 use Rattle.bank_slots_spec.proofs.InterruptMoves.{after-some, after-opened, after-not-opened, after-closed, after-not-closed, after-sent}
 use Rattle.bank_slots.proofs.interrupt.after_lane.Goals as goal
 

@@ -1,6 +1,6 @@
 -- `bank_slots::interrupt::completion_bit` meets its contract: a lane's bit, lane by lane.
 -- Assumes nothing.
-use Rattle.std.proofs.Common.{◌≡◌, ℕ, sym, ap, arith, rules}
+use Rattle.std.proofs.Common.{◌≡◌, sym, ap, arith}
 use Rattle.dshot_bank_spec.specs.Interrupt.{completion_bit}
 use Rattle.bank_slots.proofs.interrupt.completion_bit.Goals as goal
 

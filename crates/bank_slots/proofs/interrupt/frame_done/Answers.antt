@@ -1,6 +1,6 @@
 -- `bank_slots::interrupt::frame_done` meets its contract: a frame set's slots after it is done.
 -- Assumes nothing.
-use Rattle.std.proofs.Common.{length, sym, ap, ◌∙◌, length-set, rules}
+use Rattle.std.proofs.Common.{length, sym, ap, ◌∙◌, length-set}
 use Rattle.bank_slots_spec.proofs.MoveLaws.{moves-at}
 use Rattle.bank_slots_spec.proofs.InterruptMoves.{frame-done}
 use Rattle.bank_slots.proofs.interrupt.frame_done.Goals as goal

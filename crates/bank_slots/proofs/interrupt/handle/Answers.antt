@@ -1,6 +1,6 @@
 -- `bank_slots::interrupt::handle` meets its contract: one interrupt of a lane: each return is a case of the tests.
 -- Assumes nothing.
-use Rattle.std.proofs.Common.{ℕ, not, sym, refl, ap, ◌∙◌, rules}
+use Rattle.std.proofs.Common.{ℕ, not, sym, refl, ap, ◌∙◌}
 use lib.Bits.{bit_and}
 use Rattle.dshot_bank_spec.specs.Interrupt.{faulted, spurious}
 use Rattle.bank_slots_spec.proofs.InterruptMoves.{on-faulted, on-idle, on-again, on-error, on-incomplete, on-complete}

@@ -1,6 +1,6 @@
 -- `bank_slots::interrupt::lane_done` meets its contract: the slots of a lane that has completed.
 -- Assumes nothing.
-use Rattle.std.proofs.Common.{refl, rules}
+use Rattle.std.proofs.Common.{refl}
 use lib.Bits.{bit_or}
 use Rattle.bank_slots_spec.proofs.InterruptMoves.{lane_done-moves}
 use Rattle.bank_slots.proofs.interrupt.lane_done.Goals as goal

@@ -1,7 +1,6 @@
 -- `bank_slots::interrupt::latched` meets its contract: a fault latched right after the lane's pause.
 -- Assumes nothing.
 use Rattle.bank_slots_spec.proofs.InterruptMoves.{handles-latched}
-use Rattle.std.proofs.Common.{rules}
 use Rattle.bank_slots.proofs.interrupt.latched.Goals as goal
 
 pub returns : goal.returns

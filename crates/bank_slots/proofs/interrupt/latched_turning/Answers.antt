@@ -2,7 +2,6 @@
 -- Assumes nothing.
 use Rattle.dshot_bank_spec.specs.Order.{begin_receive, end_receive}
 use Rattle.bank_slots_spec.proofs.InterruptMoves.{handles-turning}
-use Rattle.std.proofs.Common.{rules}
 use Rattle.bank_slots.proofs.interrupt.latched_turning.Goals as goal
 
 pub returns : goal.returns

@@ -1,7 +1,6 @@
 -- `bank_slots::interrupt::on_dma_interrupt` meets its contract: an interrupt's call: a slice of another length, a lane above the last, or the step.
 -- Assumes nothing.
 use Rattle.bank_slots_spec.proofs.InterruptMoves.{call-unfit, call-short, call-refused, call-done}
-use Rattle.std.proofs.Common.{rules}
 use Rattle.bank_slots.proofs.interrupt.on_dma_interrupt.Goals as goal
 
 pub returns-then-bank-ne-SLOTS : goal.returns-then-bank-ne-SLOTS

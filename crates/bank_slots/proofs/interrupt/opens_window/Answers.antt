@@ -1,6 +1,6 @@
 -- `bank_slots::interrupt::opens_window` meets its contract: whether a window opens, from its two flags.
 -- Assumes nothing.
-use Rattle.std.proofs.Common.{not, sym, refl, ap, ◌∙◌, rules}
+use Rattle.std.proofs.Common.{not, sym, refl, ap, ◌∙◌}
 use Rattle.bank_slots_spec.specs.Load.{load}
 use Rattle.dshot_bank_spec.proofs.LaneLaws.{on, off}
 use Rattle.bank_slots.proofs.interrupt.opens_window.Goals as goal

@@ -1,6 +1,6 @@
 -- `bank_slots::interrupt::tell` meets its contract: nine slots filled one after another.
 -- Assumes nothing.
-use Rattle.std.proofs.Common.{ℕ, List, ◌∷◌, sym, ap, ◌∙◌, arith, length-set, rules}
+use Rattle.std.proofs.Common.{ℕ, List, ◌∷◌, sym, ap, ◌∙◌, arith, length-set}
 use Rattle.dshot_spec.specs.Tabulate.{tabulate}
 use Rattle.bank_slots_spec.specs.Memory.{at}
 use Rattle.bank_slots_spec.proofs.FillLaws.{filled, tabulated}

@@ -1,6 +1,6 @@
 -- `bank_slots::interrupt::window_closed` meets its contract: the slots of a receive window that closes.
 -- Assumes nothing.
-use Rattle.std.proofs.Common.{◌∙◌, length-set, rules}
+use Rattle.std.proofs.Common.{◌∙◌, length-set}
 use Rattle.bank_slots_spec.proofs.InterruptMoves.{window-closed}
 use Rattle.bank_slots.proofs.interrupt.window_closed.Goals as goal
 

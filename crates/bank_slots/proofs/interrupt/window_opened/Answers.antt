@@ -1,6 +1,6 @@
 -- `bank_slots::interrupt::window_opened` meets its contract: the slots of a receive window that opens.
 -- Assumes nothing.
-use Rattle.std.proofs.Common.{length, sym, ap, ◌∙◌, length-set, rules}
+use Rattle.std.proofs.Common.{length, sym, ap, ◌∙◌, length-set}
 use Rattle.bank_slots_spec.proofs.MoveLaws.{moves-at}
 use Rattle.bank_slots_spec.proofs.InterruptMoves.{window-opened}
 use Rattle.bank_slots.proofs.interrupt.window_opened.Goals as goal

@@ -1,7 +1,6 @@
 -- `bank_slots::looks::command_pending` meets its contract: whether a run is being sent, as `look_flag` tells it.
 -- Assumes nothing.
 use Rattle.bank_slots_spec.proofs.LookLaws.{pending-told}
-use Rattle.std.proofs.Common.{rules}
 use Rattle.bank_slots.proofs.looks.command_pending.Goals as goal
 
 pub returns : goal.returns

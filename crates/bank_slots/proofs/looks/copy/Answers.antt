@@ -1,6 +1,6 @@
 -- `bank_slots::looks::copy` meets its contract: a loop over all slots: those passed are copied, and the others are as they were.
 -- Assumes nothing.
-use Rattle.std.proofs.Common.{◌≡◌, ◌-◌, ◌≤◌, ◌++◌, length, take, drop, refl, ◌∙◌, zero-le, arith, length-set, rules}
+use Rattle.std.proofs.Common.{refl, ◌∙◌, zero-le, arith, length-set}
 use Rattle.bank_slots_spec.proofs.FillLaws.{copied_more, copied_all}
 use Rattle.bank_slots.proofs.looks.copy.Goals as goal
 

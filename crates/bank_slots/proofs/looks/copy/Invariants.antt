@@ -1,6 +1,5 @@
 -- `bank_slots::looks::copy` meets its contract: a loop over all slots: those passed are copied, and the others are as they were.
-use Rattle.std.proofs.Common.{◌≡◌, ◌-◌, ◌≤◌, ◌++◌, length, take, drop, refl, ◌∙◌, zero-le, arith, length-set, rules}
-use Rattle.bank_slots_spec.proofs.FillLaws.{copied_more, copied_all}
+use Rattle.std.proofs.Common.{◌≡◌, ◌-◌, ◌≤◌, ◌++◌, length, take, drop}
 use Rattle.bank_slots.proofs.looks.copy.Given as goal
 
 abbrev pub invariant-loop-i : goal.invariant-loop-i

@@ -1,6 +1,6 @@
 -- `bank_slots::looks::copy_word` meets its contract: a word read and written.
 -- Assumes nothing.
-use Rattle.std.proofs.Common.{ℕ, ap, ◌∙◌, rules}
+use Rattle.std.proofs.Common.{ℕ, ap, ◌∙◌}
 use Rattle.bank_slots_spec.specs.Memory.{write, word_rows}
 use Rattle.bank_slots.proofs.looks.copy_word.Goals as goal
 

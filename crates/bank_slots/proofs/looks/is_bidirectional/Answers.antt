@@ -1,7 +1,6 @@
 -- `bank_slots::looks::is_bidirectional` meets its contract: whether the bank is bidirectional, as `look_flag` tells it.
 -- Assumes nothing.
 use Rattle.bank_slots_spec.proofs.LookLaws.{bidirectional-told}
-use Rattle.std.proofs.Common.{rules}
 use Rattle.bank_slots.proofs.looks.is_bidirectional.Goals as goal
 
 pub returns : goal.returns

@@ -1,7 +1,6 @@
 -- `bank_slots::looks::is_faulted` meets its contract: whether the bank is faulted, as `look_flag` tells it.
 -- Assumes nothing.
 use Rattle.bank_slots_spec.proofs.LookLaws.{faulted-told}
-use Rattle.std.proofs.Common.{rules}
 use Rattle.bank_slots.proofs.looks.is_faulted.Goals as goal
 
 pub returns : goal.returns

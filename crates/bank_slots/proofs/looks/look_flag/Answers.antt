@@ -1,6 +1,6 @@
 -- `bank_slots::looks::look_flag` meets its contract: it is refused, or gives the flag in a slot.
 -- Assumes nothing.
-use Rattle.std.proofs.Common.{ℕ, List, [], ◌∷◌, refl, ap, ◌∙◌, rules}
+use Rattle.std.proofs.Common.{ℕ, List, [], ◌∷◌, refl, ap, ◌∙◌}
 use Rattle.dshot_bank_spec.proofs.LaneLaws.{on, off}
 use Rattle.bank_slots_spec.specs.Called.{sized}
 use Rattle.bank_slots_spec.specs.Store.{bit}

@@ -1,6 +1,6 @@
 -- `bank_slots::looks::put_lane` meets its contract: what is handed out of a lane's slots.
 -- Assumes nothing.
-use Rattle.std.proofs.Common.{ℕ, List, refl, ap, ◌∙◌, rules}
+use Rattle.std.proofs.Common.{ℕ, List, refl, ap, ◌∙◌}
 use Rattle.dshot_reply_spec.specs.Answer.{Answer}
 use Rattle.dshot_reply_spec.specs.Value.{Reading}
 use Rattle.dshot_bank_spec.proofs.LaneLaws.{on, off}

@@ -1,6 +1,6 @@
 -- `bank_slots::looks::put_reply` meets its contract: a reply in four slots: 0, its kind and its number, or the refusal's number and zeros.
 -- Assumes nothing.
-use Rattle.std.proofs.Common.{◌≡◌, ℕ, ◌<◌, length, sym, ap, ◌∙◌, arith, length-set, rules}
+use Rattle.std.proofs.Common.{◌≡◌, ℕ, ◌<◌, length, sym, ap, ◌∙◌, arith, length-set}
 use Rattle.dshot_reply.specs.declared.DshotReplyError.{DshotReplyError}
 use Rattle.dshot_reply.specs.declared.DshotReplyError.TheVariants.{NoReply, Overlong, InvalidSymbol, Checksum, ZeroPeriod}
 use Rattle.dshot_reply.specs.declared.ReplyRead.{ReplyRead}

@@ -1,6 +1,6 @@
 -- `bank_slots::looks::reply_stats` meets its contract: the counts of replies: refused, or a word after the other.
 -- Assumes nothing.
-use Rattle.std.proofs.Common.{◌∙◌, arith, rules}
+use Rattle.std.proofs.Common.{◌∙◌, arith}
 use Rattle.dshot_bank_spec.specs.Calls.{reply_stats}
 use Rattle.bank_slots_spec.proofs.LookLaws.{look-unfit, look-short, reply-stats-told}
 use Rattle.bank_slots.proofs.looks.reply_stats.Goals as goal

@@ -1,6 +1,6 @@
 -- `bank_slots::looks::requested_values` meets its contract: it is refused, or gives the four values in four slots.
 -- Assumes nothing.
-use Rattle.std.proofs.Common.{arith, length-set, rules}
+use Rattle.std.proofs.Common.{arith, length-set}
 use Rattle.dshot_bank_spec.specs.Calls.{requested_values_call}
 use Rattle.bank_slots_spec.proofs.LookLaws.{look-unfit, look-short, values-told}
 use Rattle.bank_slots.proofs.looks.requested_values.Goals as goal

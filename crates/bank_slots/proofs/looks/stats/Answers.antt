@@ -1,6 +1,6 @@
 -- `bank_slots::looks::stats` meets its contract: the counts: refused, or copied as they stand.
 -- Assumes nothing.
-use Rattle.std.proofs.Common.{arith, rules}
+use Rattle.std.proofs.Common.{arith}
 use Rattle.dshot_bank_spec.specs.Calls.{stats}
 use Rattle.bank_slots_spec.proofs.LookLaws.{look-unfit, look-short, stats-told}
 use Rattle.bank_slots.proofs.looks.stats.Goals as goal

@@ -1,6 +1,6 @@
 -- `bank_slots::looks::stored` meets its contract: the reply of a kind and a number, kind by kind.
 -- Assumes nothing.
-use Rattle.std.proofs.Common.{ℕ, sym, ap, rules}
+use Rattle.std.proofs.Common.{ℕ, sym, ap}
 use Rattle.bank_slots_spec.specs.Load.{reply}
 use Rattle.bank_slots_spec.proofs.LookLaws.{no_kind}
 use Rattle.bank_slots.proofs.looks.stored.Goals as goal

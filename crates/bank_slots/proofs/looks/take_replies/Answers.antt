@@ -1,6 +1,6 @@
 -- `bank_slots::looks::take_replies` meets its contract: it is refused, or gives each lane's reply, and none are held after it.
 -- Assumes nothing.
-use Rattle.std.proofs.Common.{ℕ, set, ap, ◌∙◌, arith, length-set, rules}
+use Rattle.std.proofs.Common.{ℕ, set, ap, ◌∙◌, arith, length-set}
 use Rattle.bank_slots_spec.specs.Places.{REPLIES}
 use Rattle.bank_slots_spec.proofs.LookLaws.{take-unfit, take_short, laneTold, replies-taken}
 use Rattle.bank_slots.proofs.looks.take_replies.Goals as goal

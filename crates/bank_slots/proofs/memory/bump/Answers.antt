@@ -1,6 +1,6 @@
 -- `bank_slots::memory::bump` meets its contract: one more in two slots.
 -- Assumes nothing.
-use Rattle.std.proofs.Common.{ℕ, ap, ◌∙◌, rules}
+use Rattle.std.proofs.Common.{ℕ, ap, ◌∙◌}
 use Rattle.dshot_bank_spec.specs.Replies.{wrapping_add}
 use Rattle.bank_slots_spec.specs.Memory.{write, word_rows}
 use Rattle.bank_slots.proofs.memory.bump.Goals as goal

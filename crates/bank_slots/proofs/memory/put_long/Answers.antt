@@ -1,6 +1,6 @@
 -- `bank_slots::memory::put_long` meets its contract: four slots written, one after another.
 -- Assumes nothing.
-use Rattle.std.proofs.Common.{arith, length-set, rules}
+use Rattle.std.proofs.Common.{arith, length-set}
 use Rattle.bank_slots.proofs.memory.put_long.Goals as goal
 
 pub bounds-state-k-2 : goal.bounds-state-k-2

@@ -1,6 +1,6 @@
 -- `bank_slots::memory::zero` meets its contract: a loop over all slots: those passed hold 0, and the others are as they were.
 -- Assumes nothing.
-use Rattle.std.proofs.Common.{◌≡◌, ℕ, ◌-◌, ◌≤◌, List, ◌++◌, length, drop, set, replicate, refl, ap, ◌∙◌, append-nil, zero-le, arith, length-set, rules}
+use Rattle.std.proofs.Common.{◌≡◌, ℕ, List, length, set, replicate, refl, ap, ◌∙◌, append-nil, zero-le, arith, length-set}
 use lib.Seq.{drop-length}
 use borrow.Author.Fill.{fill_more}
 use Rattle.bank_slots.proofs.memory.zero.Goals as goal

@@ -1,7 +1,5 @@
 -- `bank_slots::memory::zero` meets its contract: a loop over all slots: those passed hold 0, and the others are as they were.
-use Rattle.std.proofs.Common.{◌≡◌, ℕ, ◌-◌, ◌≤◌, List, ◌++◌, length, drop, set, replicate, refl, ap, ◌∙◌, append-nil, zero-le, arith, length-set, rules}
-use lib.Seq.{drop-length}
-use borrow.Author.Fill.{fill_more}
+use Rattle.std.proofs.Common.{◌≡◌, ◌-◌, ◌≤◌, ◌++◌, length, drop, replicate}
 use Rattle.bank_slots.proofs.memory.zero.Given as goal
 
 abbrev pub invariant-loop-i : goal.invariant-loop-i

@@ -1,6 +1,6 @@
 -- `bank_slots::replies::count_reply` meets its contract: a reply counted in a lane's slots: the kind and number before it are not looked at.
 -- Assumes nothing.
-use Rattle.std.proofs.Common.{ap, ◌∙◌, rules}
+use Rattle.std.proofs.Common.{ap, ◌∙◌}
 use Rattle.dshot_bank_spec.specs.State.{LaneReply}
 use Rattle.dshot_reply.specs.Answers.{reply_answer}
 use Rattle.dshot_bank.specs.States.{lane_reply_of}

@@ -1,6 +1,6 @@
 -- `bank_slots::replies::decode_lane` meets its contract: a lane's window read, and its reply counted.
 -- Assumes nothing.
-use Rattle.std.proofs.Common.{ℕ, ◌+◌, false, List, get_or, sym, refl, ap, ◌∙◌, rules}
+use Rattle.std.proofs.Common.{ℕ, ◌+◌, false, List, get_or, sym, refl, ap, ◌∙◌}
 use borrow.Author.Tests.{not-true, not-false}
 use Rattle.dshot_reply_spec.specs.Answer.{Answer}
 use Rattle.dshot_reply_spec.specs.Value.{Reading}

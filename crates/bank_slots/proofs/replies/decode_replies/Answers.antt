@@ -1,7 +1,6 @@
 -- `bank_slots::replies::decode_replies` meets its contract: the four lanes read and counted, one after another.
 -- Assumes nothing.
 use Rattle.bank_slots_spec.proofs.ReplyMoves.{replies-decoded}
-use Rattle.std.proofs.Common.{rules}
 use Rattle.bank_slots.proofs.replies.decode_replies.Goals as goal
 
 pub returns : goal.returns

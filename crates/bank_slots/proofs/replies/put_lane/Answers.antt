@@ -1,6 +1,6 @@
 -- `bank_slots::replies::put_lane` meets its contract: a lane's reply and counts in its nine slots, one number after another.
 -- Assumes nothing.
-use Rattle.std.proofs.Common.{◌+◌, set, ap, ◌∙◌, arith, length-set, rules}
+use Rattle.std.proofs.Common.{◌+◌, set, ap, ◌∙◌, arith, length-set}
 use Rattle.bank_slots_spec.specs.Memory.{write, word_rows}
 use Rattle.bank_slots.proofs.replies.put_lane.Goals as goal
 

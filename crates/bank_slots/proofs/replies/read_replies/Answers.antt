@@ -1,6 +1,6 @@
 -- `bank_slots::replies::read_replies` meets its contract: if windows wait, they are read.
 -- Assumes nothing.
-use Rattle.std.proofs.Common.{sym, ◌∙◌, rules}
+use Rattle.std.proofs.Common.{sym, ◌∙◌}
 use borrow.Author.Tests.{not-true, not-false}
 use Rattle.bank_slots_spec.proofs.ReplyMoves.{none-waits, windows-read}
 use Rattle.bank_slots.proofs.replies.read_replies.Goals as goal

@@ -1,6 +1,6 @@
 -- `bank_slots::replies::stored_kind` meets its contract: the kind of a reading, or that of a refusal.
 -- Assumes nothing.
-use Rattle.std.proofs.Common.{◌≡◌, ℕ, ◌+◌, ◌<◌, sym, ap, ◌∙◌, arith, rules}
+use Rattle.std.proofs.Common.{◌≡◌, ℕ, ◌+◌, ◌<◌, sym, ap, ◌∙◌, arith}
 use Rattle.dshot_reply.specs.declared.DshotReplyError.{DshotReplyError}
 use Rattle.dshot_reply.specs.declared.DshotReplyError.TheVariants.{NoReply, Overlong, InvalidSymbol, Checksum, ZeroPeriod}
 use Rattle.dshot_reply.specs.declared.ReplyRead.{ReplyRead}

@@ -1,7 +1,6 @@
 -- `bank_slots::send::carry` meets its contract: a request that is carried, or none.
 -- Assumes nothing.
 use Rattle.bank_slots_spec.proofs.SendMoves.{none-carried, no-request, request-carried}
-use Rattle.std.proofs.Common.{rules}
 use Rattle.bank_slots.proofs.send.carry.Goals as goal
 
 pub returns-then-not-ordinary : goal.returns-then-not-ordinary

@@ -1,7 +1,6 @@
 -- `bank_slots::send::exchange` meets its contract: the number of an order to exchange, with its buffer.
 -- Assumes nothing.
 use Rattle.bank_slots_spec.proofs.SendMoves.{exchange-first, exchange-second}
-use Rattle.std.proofs.Common.{rules}
 use Rattle.bank_slots.proofs.send.exchange.Goals as goal
 
 pub returns-then-in_second : goal.returns-then-in_second

@@ -1,6 +1,6 @@
 -- `bank_slots::send::frame_set` meets its contract: a command's frame set, or an ordinary one.
 -- Assumes nothing.
-use Rattle.std.proofs.Common.{sym, ap, ◌∙◌, subst, rules}
+use Rattle.std.proofs.Common.{sym, ap, ◌∙◌, subst}
 use Rattle.dshot_bank_spec.specs.FrameSet.{FrameSet, frame_set}
 use Rattle.bank_slots_spec.specs.Load.{load}
 use Rattle.bank_slots.specs.declared.send.FrameCommand.{FrameCommand}

@@ -1,7 +1,6 @@
 -- `bank_slots::send::frame_started` meets its contract: a frame set that starts: marks turned, in flight, and its request carried.
 -- Assumes nothing.
 use Rattle.bank_slots_spec.proofs.SendMoves.{frame-starts}
-use Rattle.std.proofs.Common.{rules}
 use Rattle.bank_slots.proofs.send.frame_started.Goals as goal
 
 pub returns : goal.returns

@@ -1,6 +1,6 @@
 -- `bank_slots::send::kind` meets its contract: the kind of checksum, by the flag.
 -- Assumes nothing.
-use Rattle.std.proofs.Common.{sym, refl, ◌∙◌, rules}
+use Rattle.std.proofs.Common.{sym, refl, ◌∙◌}
 use Rattle.dshot_spec.specs.Packet.{plain, inverted}
 use Rattle.dshot_bank_spec.proofs.LaneLaws.{on, off}
 use Rattle.bank_slots_spec.specs.Load.{load}

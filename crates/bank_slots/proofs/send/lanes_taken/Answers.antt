@@ -1,6 +1,6 @@
 -- `bank_slots::send::lanes_taken` meets its contract: the lanes that took their buffer, lane by lane.
 -- Assumes nothing.
-use Rattle.std.proofs.Common.{not, sym, ap, ◌∙◌, rules}
+use Rattle.std.proofs.Common.{not, sym, ap, ◌∙◌}
 use Rattle.bank_slots_spec.proofs.SendMoves.{taken_none, taken-one, taken-two, taken-three, taken-all}
 use Rattle.bank_slots.proofs.send.lanes_taken.Goals as goal
 

@@ -1,6 +1,6 @@
 -- `bank_slots::send::marks_at` meets its contract: the four marks, slot by slot.
 -- Assumes nothing.
-use Rattle.std.proofs.Common.{[], ◌∷◌, rules}
+use Rattle.std.proofs.Common.{[], ◌∷◌}
 use Rattle.bank_slots_spec.specs.Load.{load}
 use Rattle.bank_slots.proofs.send.marks_at.Goals as goal
 

@@ -1,7 +1,6 @@
 -- `bank_slots::send::next_command_frame` meets its contract: the next command: a run that is cancelled, no run, or a step of it.
 -- Assumes nothing.
 use Rattle.bank_slots_spec.proofs.SendMoves.{frame-cancelled, frame-none, frame-stepped}
-use Rattle.std.proofs.Common.{rules}
 use Rattle.bank_slots.proofs.send.next_command_frame.Goals as goal
 
 pub returns-then-any_above : goal.returns-then-any_above

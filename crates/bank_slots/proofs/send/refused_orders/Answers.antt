@@ -1,6 +1,6 @@
 -- `bank_slots::send::refused_orders` meets its contract: the orders of a refused exchange, lane by lane.
 -- Assumes nothing.
-use Rattle.std.proofs.Common.{◌≡◌, arith, rules}
+use Rattle.std.proofs.Common.{◌≡◌, arith}
 use Rattle.bank_slots_spec.proofs.SendMoves.{refused-0, refused-1, refused-2, refused-3}
 use Rattle.bank_slots.proofs.send.refused_orders.Goals as goal
 

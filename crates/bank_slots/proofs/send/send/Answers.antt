@@ -1,6 +1,6 @@
 -- `bank_slots::send::send` meets its contract: a frame set: what is sent, the spares, and one of the two ends of the exchange.
 -- Assumes nothing.
-use Rattle.std.proofs.Common.{◌∙◌, rules}
+use Rattle.std.proofs.Common.{◌∙◌}
 use Rattle.dshot_bank_spec.specs.State.{Buffers}
 use Rattle.bank_slots_spec.proofs.SendMoves.{packets-sent, duties-sent, spares-sent, sends-refused, sends-started}
 use Rattle.bank_slots.specs.Frames.{motor_command_of}

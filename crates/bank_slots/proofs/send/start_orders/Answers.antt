@@ -1,7 +1,6 @@
 -- `bank_slots::send::start_orders` meets its contract: the orders of a frame set that starts.
 -- Assumes nothing.
 use Rattle.bank_slots_spec.proofs.SendMoves.{start-coded}
-use Rattle.std.proofs.Common.{rules}
 use Rattle.bank_slots.proofs.send.start_orders.Goals as goal
 
 pub returns : goal.returns

@@ -1,7 +1,7 @@
 -- `bank_slots::send::step_run` meets its contract: a run's next command, and the run after it; a spent run is cleared.
 -- Assumes nothing.
-use Rattle.std.proofs.Common.{ap, ◌∙◌, arith, rules}
-use Rattle.dshot_spec.specs.Command.{CommandRun, next_value}
+use Rattle.std.proofs.Common.{ap, ◌∙◌, arith}
+use Rattle.dshot_spec.specs.Command.{next_value}
 use Rattle.dshot.specs.Answers.{command_of, next_of}
 use Rattle.bank_slots_spec.proofs.SendMoves.{run-next}
 use Rattle.bank_slots.proofs.send.step_run.Goals as goal

@@ -1,6 +1,6 @@
 -- `bank_slots::send::tell` meets its contract: fifteen slots filled one after another.
 -- Assumes nothing.
-use Rattle.std.proofs.Common.{◌∷◌, ◌++◌, sym, ◌∙◌, arith, length-set, rules}
+use Rattle.std.proofs.Common.{◌∷◌, ◌++◌, sym, ◌∙◌, arith, length-set}
 use Rattle.dshot_spec.specs.Tabulate.{tabulate}
 use Rattle.bank_slots_spec.specs.Memory.{at}
 use Rattle.bank_slots_spec.proofs.FillLaws.{filled, tabulated}

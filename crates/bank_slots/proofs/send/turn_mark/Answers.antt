@@ -1,6 +1,6 @@
 -- `bank_slots::send::turn_mark` meets its contract: if a test holds, a mark is turned.
 -- Assumes nothing.
-use Rattle.std.proofs.Common.{Bool, not, set, refl, ap, ◌∙◌, rules}
+use Rattle.std.proofs.Common.{Bool, not, set, refl, ap, ◌∙◌}
 use Rattle.dshot_bank_spec.proofs.LaneLaws.{on, off}
 use Rattle.bank_slots_spec.specs.Store.{bit}
 use Rattle.bank_slots.proofs.send.turn_mark.Goals as goal

@@ -1,7 +1,6 @@
 -- `bank_slots::send::turn_marks` meets its contract: the marks of the four lanes, one after another.
 -- Assumes nothing.
 use Rattle.bank_slots_spec.proofs.SendMoves.{marks-turned}
-use Rattle.std.proofs.Common.{rules}
 use Rattle.bank_slots.proofs.send.turn_marks.Goals as goal
 
 pub returns : goal.returns

@@ -1,6 +1,6 @@
 -- `bank_slots::service::count_busy_skip` meets its contract: one more in the count of busy services.
 -- Assumes nothing.
-use Rattle.std.proofs.Common.{sym, rules}
+use Rattle.std.proofs.Common.{sym}
 use Rattle.bank_slots_spec.proofs.MoveLaws.{moves-at}
 use Rattle.bank_slots_spec.proofs.ServiceMoves.{busy-skip-counted}
 use Rattle.bank_slots.proofs.service.count_busy_skip.Goals as goal

@@ -1,6 +1,6 @@
 -- `bank_slots::service::serve` meets its contract: a service: faulted, with a frame in flight, or sending.
 -- Assumes nothing.
-use Rattle.std.proofs.Common.{sym, ◌∙◌, rules}
+use Rattle.std.proofs.Common.{sym, ◌∙◌}
 use Rattle.dshot_bank_spec.specs.State.{Buffers}
 use Rattle.bank_slots_spec.proofs.ServiceMoves.{serve-faulted, serve-skips, serve-sends}
 use Rattle.bank_slots.proofs.service.serve.Goals as goal

@@ -1,6 +1,6 @@
 -- `bank_slots::service::serve_busy` meets its contract: a service while a frame is in flight: late, with a lease that has expired, or neither.
 -- Assumes nothing.
-use Rattle.std.proofs.Common.{ℕ, sym, ap, ◌∙◌, rules}
+use Rattle.std.proofs.Common.{ℕ, sym, ap, ◌∙◌}
 use Rattle.dshot_spec.specs.Lease.{lease_expired}
 use Rattle.bank_slots_spec.proofs.ServiceMoves.{busy-late, busy-expired, busy-busy}
 use Rattle.bank_slots.proofs.service.serve_busy.Goals as goal

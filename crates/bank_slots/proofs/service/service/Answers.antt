@@ -1,6 +1,6 @@
 -- `bank_slots::service::service` meets its contract: the call: its three promises, by one law a return.
 -- Assumes nothing.
-use Rattle.std.proofs.Common.{sym, ◌∙◌, rules}
+use Rattle.std.proofs.Common.{sym, ◌∙◌}
 use borrow.Author.Tests.{not-true, not-false}
 use Rattle.dshot_bank.proofs.ReplyLaws.{three-fit}
 use Rattle.bank_slots_spec.proofs.ServiceMoves.{call-unfit, call-lanes, call-short, call-refused, call-done}

@@ -1,7 +1,6 @@
 -- `bank_slots::service::time_out` meets its contract: a frame that has timed out: its count, and the latched fault.
 -- Assumes nothing.
 use Rattle.bank_slots_spec.proofs.ServiceMoves.{timed-out}
-use Rattle.std.proofs.Common.{rules}
 use Rattle.bank_slots.proofs.service.time_out.Goals as goal
 
 pub returns : goal.returns

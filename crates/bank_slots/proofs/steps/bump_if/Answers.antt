@@ -1,6 +1,6 @@
 -- `bank_slots::steps::bump_if` meets its contract: if a test holds, a count is raised.
 -- Assumes nothing.
-use Rattle.std.proofs.Common.{refl, rules}
+use Rattle.std.proofs.Common.{refl}
 use Rattle.dshot_bank_spec.proofs.LaneLaws.{on, off}
 use Rattle.bank_slots.proofs.steps.bump_if.Goals as goal
 

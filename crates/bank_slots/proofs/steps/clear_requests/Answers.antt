@@ -1,7 +1,6 @@
 -- `bank_slots::steps::clear_requests` meets its contract: the requests and a run cleared, one after another.
 -- Assumes nothing.
 use Rattle.bank_slots_spec.proofs.FaultMoves.{requests-cleared}
-use Rattle.std.proofs.Common.{rules}
 use Rattle.bank_slots.proofs.steps.clear_requests.Goals as goal
 
 pub returns : goal.returns

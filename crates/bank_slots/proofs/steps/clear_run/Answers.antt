@@ -1,7 +1,7 @@
 -- `bank_slots::steps::clear_run` meets its contract: the slots of a run cleared.
 -- Assumes nothing.
 use Rattle.bank_slots_spec.proofs.FaultMoves.{run-cleared}
-use Rattle.std.proofs.Common.{arith, length-set, rules}
+use Rattle.std.proofs.Common.{arith, length-set}
 use Rattle.bank_slots.proofs.steps.clear_run.Goals as goal
 
 pub bounds-state : goal.bounds-state

@@ -1,7 +1,7 @@
 -- `bank_slots::steps::count_fault` meets its contract: the counts of a fault.
 -- Assumes nothing.
 use Rattle.bank_slots_spec.proofs.FaultMoves.{fault-counted}
-use Rattle.std.proofs.Common.{refl, rules}
+use Rattle.std.proofs.Common.{refl}
 use Rattle.bank_slots.proofs.steps.count_fault.Goals as goal
 
 pub returns : goal.returns

@@ -1,7 +1,6 @@
 -- `bank_slots::steps::latch_fault` meets its contract: a latched fault, part by part.
 -- Assumes nothing.
 use Rattle.bank_slots_spec.proofs.FaultMoves.{fault-latched}
-use Rattle.std.proofs.Common.{rules}
 use Rattle.bank_slots.proofs.steps.latch_fault.Goals as goal
 
 pub returns : goal.returns

@@ -1,7 +1,7 @@
 -- `bank_slots::steps::latch_flags` meets its contract: the flags of a latched fault.
 -- Assumes nothing.
 use Rattle.bank_slots_spec.proofs.FaultMoves.{flags-latched}
-use Rattle.std.proofs.Common.{arith, length-set, rules}
+use Rattle.std.proofs.Common.{arith, length-set}
 use Rattle.bank_slots.proofs.steps.latch_flags.Goals as goal
 
 pub bounds-state-23 : goal.bounds-state-23

@@ -1,6 +1,6 @@
 -- `bank_slots::steps::run_from` meets its contract: a run out of four slots.
 -- Assumes nothing.
-use Rattle.std.proofs.Common.{◌≡◌, ◌+◌, ◌%◌, [], ◌∷◌, rules}
+use Rattle.std.proofs.Common.{◌+◌, ◌%◌, [], ◌∷◌}
 use Rattle.bank_slots_spec.specs.Memory.{at}
 use Rattle.bank_slots.proofs.steps.run_from.Goals as goal
 

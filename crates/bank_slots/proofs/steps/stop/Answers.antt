@@ -1,7 +1,7 @@
 -- `bank_slots::steps::stop` meets its contract: the slots of a demand cleared.
 -- Assumes nothing.
 use Rattle.bank_slots_spec.proofs.FaultMoves.{stopped}
-use Rattle.std.proofs.Common.{arith, length-set, rules}
+use Rattle.std.proofs.Common.{arith, length-set}
 use Rattle.bank_slots.proofs.steps.stop.Goals as goal
 
 pub bounds-state : goal.bounds-state

@@ -1,7 +1,6 @@
 -- `dshot::DshotCommandSequence::spin_direction` meets its contract.
 -- Assumes nothing.
 use Rattle.dshot_spec.specs.Command.{spin_direction}
-use Rattle.std.proofs.Common.{rules}
 use Rattle.dshot.proofs.DshotCommandSequence.spin_direction.Goals as goal
 
 pub returns : goal.returns

@@ -1,6 +1,6 @@
 -- `dshot::DshotPacket::from_value` meets its contract.
 -- Assumes nothing.
-use Rattle.std.proofs.Common.{◌≡◌, ◌+◌, ◌*◌, ◌%◌, ap, ◌∙◌, arith, rules}
+use Rattle.std.proofs.Common.{◌≡◌, ◌+◌, ◌*◌, ◌%◌, ap, ◌∙◌, arith}
 use Rattle.dshot_spec.specs.Packet.{packet_word, checksum, payload}
 use Rattle.dshot_spec.proofs.PacketReads.{flag-lt}
 use Rattle.dshot.proofs.PacketLaws.{byte_flag}

@@ -1,6 +1,6 @@
 -- `dshot::DshotPacket::from_value_bidirectional` meets its contract.
 -- Assumes nothing.
-use Rattle.std.proofs.Common.{ℕ, ap, ◌∙◌, rules}
+use Rattle.std.proofs.Common.{ℕ, ap, ◌∙◌}
 use lib.Bits.{bit_xor}
 use Rattle.dshot_spec.specs.Packet.{packet_word, checksum, payload}
 use Rattle.dshot_spec.proofs.PacketReads.{checksum-lt}

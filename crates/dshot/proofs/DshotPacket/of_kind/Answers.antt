@@ -1,6 +1,6 @@
 -- `dshot::DshotPacket::of_kind` meets its contract.
 -- Assumes nothing.
-use Rattle.std.proofs.Common.{sym, ap, ◌∙◌, rules}
+use Rattle.std.proofs.Common.{sym, ap, ◌∙◌}
 use Rattle.dshot_spec.specs.Packet.{packet_word}
 use Rattle.dshot.specs.declared.ChecksumKind.{ChecksumKind}
 use Rattle.dshot.specs.Answers.{kind_of}

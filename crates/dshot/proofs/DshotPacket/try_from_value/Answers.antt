@@ -1,6 +1,6 @@
 -- `dshot::DshotPacket::try_from_value` meets its contract.
 -- Assumes nothing.
-use Rattle.std.proofs.Common.{rules, le-ltb, lt-ltb}
+use Rattle.std.proofs.Common.{le-ltb, lt-ltb}
 use Rattle.dshot_spec.specs.Packet.{try_packet}
 use Rattle.dshot.proofs.DshotPacket.try_from_value.Goals as goal
 

@@ -1,6 +1,6 @@
 -- `dshot::DshotTiming::from_clocks` meets its contract: each refusal by its test, and the counts without a bit cut off.
 -- Assumes nothing.
-use Rattle.std.proofs.Common.{◌≡◌, ◌*◌, ◌<◌, ◌≤◌, ◌∙◌, arith, lit<, rules, le-ltb, lt-ltb, eq-eqb, ne_eqb}
+use Rattle.std.proofs.Common.{◌≡◌, ◌*◌, ◌<◌, ◌≤◌, ◌∙◌, arith, lit<, le-ltb, lt-ltb, eq-eqb, ne_eqb}
 use Rattle.dshot_reply_spec.specs.Nearest.{nearest}
 use Rattle.dshot_spec.specs.Timing.{from_clocks}
 use Rattle.dshot_spec.proofs.TimingLaws.{sample-period-fits}

@@ -1,6 +1,6 @@
 -- `dshot::TelemetryLane::is` meets its contract.
 -- Assumes nothing.
-use Rattle.std.proofs.Common.{sym, ap, rules}
+use Rattle.std.proofs.Common.{sym, ap}
 use Rattle.dshot_spec.specs.Packet.{asks}
 use Rattle.dshot.specs.declared.TelemetryLane.{TelemetryLane}
 use Rattle.dshot.specs.Answers.{lane_of}

@@ -1,6 +1,6 @@
 -- `dshot::read::duty_at` meets its contract.
 -- Assumes nothing.
-use Rattle.std.proofs.Common.{◌≡◌, ℕ, suc, ◌-◌, ◌∷◌, get_or, ap, arith, rules}
+use Rattle.std.proofs.Common.{◌≡◌, ℕ, suc, ◌-◌, ◌∷◌, get_or, ap, arith}
 use Rattle.dshot.proofs.read.duty_at.Goals as goal
 
 pub returns : goal.returns

@@ -1,6 +1,6 @@
 -- `dshot::read::read_compare_sequence` meets its contract.
 -- Assumes nothing.
-use Rattle.std.proofs.Common.{◌≡◌, ℕ, ◌∷◌, length, get_or, take, sym, ap, ◌∙◌, arith, length-take-le, rules, eq-eqb, ne_eqb}
+use Rattle.std.proofs.Common.{◌≡◌, ℕ, ◌∷◌, length, get_or, take, sym, ap, ◌∙◌, arith, length-take-le, eq-eqb, ne_eqb}
 use Rattle.dshot_reply_spec.specs.Answer.{Answer, given, refused, and_then}
 use Rattle.dshot_reply_spec.specs.Refusals.{wrong_duty}
 use Rattle.dshot_spec.specs.Packet.{read_packet}

@@ -1,6 +1,6 @@
 -- `dshot::read::read_packet` meets its contract.
 -- Assumes nothing.
-use Rattle.std.proofs.Common.{ℕ, ◌/◌, ◌%◌, sym, ap, ◌∙◌, rules, eq-eqb, ne_eqb}
+use Rattle.std.proofs.Common.{ℕ, ◌/◌, ◌%◌, sym, ap, ◌∙◌, eq-eqb, ne_eqb}
 use lib.Bits.{bit_xor}
 use Rattle.dshot_spec.specs.Packet.{read_packet, checksum, sent, inverted}
 use Rattle.dshot.proofs.read.read_packet.Goals as goal

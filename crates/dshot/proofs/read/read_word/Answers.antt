@@ -1,10 +1,10 @@
 -- `dshot::read::read_word` meets its contract: before each turn of the loop the word so far and the duties left give the whole.
 -- Assumes nothing.
-use Rattle.std.proofs.Common.{◌≡◌, ℕ, ◌-◌, ◌∷◌, sym, ap, ◌∙◌, arith, rules}
+use Rattle.std.proofs.Common.{◌≡◌, ℕ, ◌∷◌, sym, ap, ◌∙◌, arith}
 use Rattle.dshot_spec.specs.Sequence.{duty_bit}
 use Rattle.dshot_spec.specs.Timing.{Timing}
 use Rattle.dshot.specs.declared.read.DutyBit.{DutyBit}
-use Rattle.dshot.proofs.ReadLaws.{SoFar, none_yet, one_more, room, no-bit, all_read}
+use Rattle.dshot.proofs.ReadLaws.{none_yet, one_more, room, no-bit, all_read}
 use Rattle.dshot.specs.Answers.{timing_of}
 use Rattle.dshot.specs.Steps.{duty_answer}
 use Rattle.dshot.proofs.read.read_word.Goals as goal

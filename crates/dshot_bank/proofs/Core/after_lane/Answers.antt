@@ -1,6 +1,6 @@
 -- `dshot_bank::Core::after_lane` meets its contract: each return is a case of the tests.
 -- Assumes nothing.
-use Rattle.std.proofs.Common.{not, [], sym, refl, ap, ◌∙◌, arith, rules, eq-eqb, ne_eqb}
+use Rattle.std.proofs.Common.{not, [], sym, refl, ap, ◌∙◌, arith, eq-eqb, ne_eqb}
 use Rattle.dshot_bank_spec.proofs.LaneLaws.{on, off}
 use Rattle.dshot_bank_spec.specs.Order.{stop_frame, begin_receive, end_receive}
 use Rattle.dshot_bank_spec.specs.Interrupt.{afterLane}

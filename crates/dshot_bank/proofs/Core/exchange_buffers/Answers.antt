@@ -1,6 +1,6 @@
 -- `dshot_bank::Core::exchange_buffers` meets its contract.
 -- Assumes nothing.
-use Rattle.std.proofs.Common.{ℕ, true, ltb, sym, refl, ap, ◌∙◌, subst, rules, le-ltb, lt-ltb}
+use Rattle.std.proofs.Common.{ℕ, true, ltb, sym, refl, ap, ◌∙◌, subst, le-ltb, lt-ltb}
 use Rattle.dshot_bank.proofs.OrderLaws.{whole-started, duties-started}
 use Rattle.dshot_bank_spec.proofs.LaneLaws.{on, off}
 use Rattle.dshot_bank_spec.specs.Send.{exchange_refused, exchange_buffers}

@@ -1,6 +1,6 @@
 -- `dshot_bank::Core::exchange_refused` meets its contract.
 -- Assumes nothing.
-use Rattle.std.proofs.Common.{false, refl, ap, ◌∙◌, rules}
+use Rattle.std.proofs.Common.{false, refl, ap, ◌∙◌}
 use Rattle.dshot_bank.proofs.OrderLaws.{whole-refused, duties-refused}
 use Rattle.dshot_bank_spec.specs.Send.{latch_fault, exchange_refused}
 use Rattle.dshot_bank.proofs.Core.exchange_refused.Goals as goal

@@ -1,7 +1,7 @@
 -- `dshot_bank::Core::frame_done` meets its contract: the frame set is counted, and nothing is sent.
 -- Assumes nothing.
 use Rattle.dshot_bank_spec.specs.Interrupt.{frame_done}
-use Rattle.std.proofs.Common.{false, ap, rules}
+use Rattle.std.proofs.Common.{false, ap}
 use Rattle.dshot_bank_spec.specs.State as Spec
 use Rattle.dshot_bank_spec.specs.With.{with_busy, with_frame, with_stats}
 use Rattle.dshot_bank.specs.States.{core_of}

@@ -1,6 +1,6 @@
 -- `dshot_bank::Core::frame_set` meets its contract.
 -- Assumes nothing.
-use Rattle.std.proofs.Common.{sym, ap, ◌∙◌, rules}
+use Rattle.std.proofs.Common.{sym, ap, ◌∙◌}
 use Rattle.dshot_bank_spec.specs.FrameSet.{frame_set}
 use Rattle.dshot_bank.specs.declared.send.FrameCommand.{FrameCommand}
 use Rattle.dshot_bank.specs.States.{core_of}

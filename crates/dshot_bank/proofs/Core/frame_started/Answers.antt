@@ -1,6 +1,6 @@
 -- `dshot_bank::Core::frame_started` meets its contract.
 -- Assumes nothing.
-use Rattle.std.proofs.Common.{true, ap, ◌∙◌, rules}
+use Rattle.std.proofs.Common.{true, ap, ◌∙◌}
 use Rattle.dshot_bank_spec.specs.With.{with_frames_started, with_started_ms, with_completion_mask, with_busy, with_telemetry, with_frame, with_stats}
 use Rattle.dshot_bank_spec.specs.Replies.{wrapping_add}
 use Rattle.dshot_bank_spec.specs.Send.{carry, frame_started}

@@ -1,7 +1,6 @@
 -- `dshot_bank::Core::lane_done` meets its contract: the lane is complete. If it was sent and not sampled, it is counted.
 -- Assumes nothing.
 use Rattle.dshot_bank_spec.specs.Interrupt.{lane_done}
-use Rattle.std.proofs.Common.{rules}
 use Rattle.dshot_bank.proofs.Core.lane_done.Goals as goal
 
 pub returns-then-self : goal.returns-then-self

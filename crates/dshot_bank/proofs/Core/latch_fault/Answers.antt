@@ -1,7 +1,7 @@
 -- `dshot_bank::Core::latch_fault` meets its contract.
 -- Assumes nothing.
 use Rattle.dshot_bank_spec.specs.Send.{latch_fault}
-use Rattle.std.proofs.Common.{true, false, ap, ◌∙◌, rules}
+use Rattle.std.proofs.Common.{true, false, ap, ◌∙◌}
 use Rattle.dshot_bank_spec.specs.State as Spec
 use mathlib.Core.Option.{none}
 use Rattle.dshot_bank_spec.specs.Commands.{command_stop}

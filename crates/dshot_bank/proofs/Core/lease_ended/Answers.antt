@@ -1,6 +1,6 @@
 -- `dshot_bank::Core::lease_ended` meets its contract.
 -- Assumes nothing.
-use Rattle.std.proofs.Common.{refl, ap, ◌∙◌, rules}
+use Rattle.std.proofs.Common.{refl, ap, ◌∙◌}
 use Rattle.dshot_bank_spec.proofs.LaneLaws.{on, off}
 use Rattle.dshot_bank_spec.specs.Service.{expire_lease}
 use borrow.Author.Tests.{not-true, not-false}

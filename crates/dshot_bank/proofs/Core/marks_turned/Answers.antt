@@ -1,6 +1,6 @@
 -- `dshot_bank::Core::marks_turned` meets its contract.
 -- Assumes nothing.
-use Rattle.std.proofs.Common.{Bool, List, ap, rules}
+use Rattle.std.proofs.Common.{Bool, List, ap}
 use Rattle.dshot_bank_spec.specs.With.{with_frame, with_in_second}
 use Rattle.dshot_bank.specs.States.{core_of}
 use Rattle.dshot_bank.proofs.Core.marks_turned.Goals as goal

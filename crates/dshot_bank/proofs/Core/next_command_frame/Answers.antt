@@ -1,6 +1,6 @@
 -- `dshot_bank::Core::next_command_frame` meets its contract.
 -- Assumes nothing.
-use Rattle.std.proofs.Common.{sym, refl, ◌∙◌, rules}
+use Rattle.std.proofs.Common.{sym, refl, ◌∙◌}
 use Rattle.dshot_bank_spec.proofs.LaneLaws.{on, off}
 use Rattle.dshot_bank_spec.specs.Commands.{next_command_frame}
 use Rattle.dshot_bank.proofs.Core.next_command_frame.Goals as goal

@@ -1,6 +1,6 @@
 -- `dshot_bank::Core::on_dma_interrupt` meets its contract: each return is a case of the tests.
 -- Assumes nothing.
-use Rattle.std.proofs.Common.{[], refl, ap, rules}
+use Rattle.std.proofs.Common.{[], refl, ap}
 use Rattle.dshot_bank_spec.proofs.LaneLaws.{on, off}
 use Rattle.dshot_bank_spec.specs.State.{Core}
 use Rattle.dshot_bank_spec.specs.Interrupt.{afterLane, onDmaInterrupt}

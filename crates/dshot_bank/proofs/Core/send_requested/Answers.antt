@@ -1,6 +1,6 @@
 -- `dshot_bank::Core::send_requested` meets its contract.
 -- Assumes nothing.
-use Rattle.std.proofs.Common.{ℕ, List, ap, ◌∙◌, subst, rules}
+use Rattle.std.proofs.Common.{ℕ, List, ap, ◌∙◌, subst}
 use Rattle.dshot_bank.proofs.StepLaws.{with_requests}
 use Rattle.dshot_spec.specs.Packet.{motor_packets}
 use Rattle.dshot_bank_spec.specs.With.{with_command_sequence}
@@ -25,6 +25,9 @@ returns c =
     let duties = written.value ∙ ap (first_duties 4 k.timing) packets in
     let left =
     ap (λ (r : Requests). core_of (with_requests a.self r)) c.running-requests.ensures ∙ ap (λ (n : NextFrame). with_command_sequence n.left k) next in
-    record { sends = subst (λ (s : Spec.Sent). Sends c.exchange_buffers.result s)
-          (λ j. exchange_buffers 4 a.now_ms a.taken (chosen j).telemetry_request (duties j) (left j)) c.exchange_buffers.ensures; fact = written.fact
-          ∙ ap (λ (p : List ℕ). encode_lanes 4 k.timing k.frame.in_second p (record { first = a.first.now; second = a.second.now })) packets }
+    record {
+      sends = subst (λ (s : Spec.Sent). Sends c.exchange_buffers.result s)
+          (λ j. exchange_buffers 4 a.now_ms a.taken (chosen j).telemetry_request (duties j) (left j)) c.exchange_buffers.ensures;
+      fact = written.fact
+          ∙ ap (λ (p : List ℕ). encode_lanes 4 k.timing k.frame.in_second p (record { first = a.first.now; second = a.second.now })) packets;
+    }

@@ -1,7 +1,7 @@
 -- `dshot_bank::Core::sent_cleared` meets its contract.
 -- Assumes nothing.
 use Rattle.dshot_bank_spec.specs.Commands.{clear_request_sent}
-use Rattle.std.proofs.Common.{ap, rules}
+use Rattle.std.proofs.Common.{ap}
 use Rattle.dshot_bank.specs.declared.Requests.{Requests}
 use Rattle.dshot_bank.specs.States.{core_of}
 use Rattle.dshot_bank.proofs.Core.sent_cleared.Goals as goal

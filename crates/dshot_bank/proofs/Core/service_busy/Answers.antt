@@ -1,6 +1,6 @@
 -- `dshot_bank::Core::service_busy` meets its contract.
 -- Assumes nothing.
-use Rattle.std.proofs.Common.{false, [], sym, refl, ap, ◌∙◌, subst, rules}
+use Rattle.std.proofs.Common.{false, [], sym, refl, ap, ◌∙◌, subst}
 use Rattle.dshot_bank.proofs.OrderLaws.{whole-none, whole-latched, duties-latched}
 use Rattle.dshot_bank_spec.proofs.LaneLaws.{on, off}
 use Rattle.dshot_spec.specs.Lease.{lease_expired}

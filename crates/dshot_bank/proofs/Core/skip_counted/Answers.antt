@@ -1,6 +1,6 @@
 -- `dshot_bank::Core::skip_counted` meets its contract.
 -- Assumes nothing.
-use Rattle.std.proofs.Common.{ap, rules}
+use Rattle.std.proofs.Common.{ap}
 use Rattle.dshot_bank_spec.specs.State as Spec
 use Rattle.dshot_bank_spec.specs.With.{with_stats}
 use Rattle.dshot_bank.specs.States.{core_of}

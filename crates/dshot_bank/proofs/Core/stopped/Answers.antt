@@ -1,6 +1,6 @@
 -- `dshot_bank::Core::stopped` meets its contract.
 -- Assumes nothing.
-use Rattle.std.proofs.Common.{refl, rules}
+use Rattle.std.proofs.Common.{refl}
 use Rattle.dshot_bank.specs.States.{core_of}
 use Rattle.dshot_bank.proofs.Core.stopped.Goals as goal
 

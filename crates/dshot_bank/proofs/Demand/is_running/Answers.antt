@@ -1,6 +1,6 @@
 -- `dshot_bank::Demand::is_running` meets its contract.
 -- Assumes nothing.
-use Rattle.std.proofs.Common.{ℕ, ◌-◌, refl, ap, arith, rules}
+use Rattle.std.proofs.Common.{ℕ, ◌-◌, refl, ap, arith}
 use Rattle.dshot_bank_spec.specs.Lanes.{is_some}
 use Rattle.dshot_bank_spec.proofs.LaneLaws.{on, off}
 use Rattle.dshot_bank_spec.specs.State.{lease_of}

@@ -1,6 +1,6 @@
 -- `dshot_bank::Demand::throttled` meets its contract.
 -- Assumes nothing.
-use Rattle.std.proofs.Common.{not, sym, refl, ap, ◌∙◌, rules}
+use Rattle.std.proofs.Common.{not, sym, refl, ap, ◌∙◌}
 use Rattle.dshot_bank_spec.proofs.LaneLaws.{on, off}
 use Rattle.dshot_bank_spec.specs.Commands.{command_throttles}
 use Rattle.dshot_bank_spec.specs.Calls.{done, changed, commanded}

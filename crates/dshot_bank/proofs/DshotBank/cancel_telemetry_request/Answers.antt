@@ -1,6 +1,6 @@
 -- `dshot_bank::DshotBank::cancel_telemetry_request` meets its contract.
 -- Assumes nothing.
-use Rattle.std.proofs.Common.{ap, rules}
+use Rattle.std.proofs.Common.{ap}
 use Rattle.dshot_bank.proofs.StepLaws.{changed-so}
 use Rattle.dshot_bank_spec.specs.Steps.{step, port_refusal}
 use Rattle.dshot_bank_spec.specs.Commands.{cancel_telemetry_request}

@@ -1,6 +1,5 @@
 -- `dshot_bank::DshotBank::command_pending` meets its contract: whether there is a run.
 -- Assumes nothing.
-use Rattle.std.proofs.Common.{rules}
 use Rattle.dshot_bank_spec.specs.Calls.{flag}
 use Rattle.dshot_bank_spec.specs.Steps.{port_refusal, step}
 use Rattle.dshot_bank.specs.States.{state_of}

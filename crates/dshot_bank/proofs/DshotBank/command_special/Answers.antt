@@ -1,6 +1,6 @@
 -- `dshot_bank::DshotBank::command_special` meets its contract.
 -- Assumes nothing.
-use Rattle.std.proofs.Common.{ℕ, sym, refl, ap, ◌∙◌, rules}
+use Rattle.std.proofs.Common.{ℕ, sym, refl, ap, ◌∙◌}
 use Rattle.dshot_bank.proofs.StepLaws.{found-step, missing-step}
 use Rattle.dshot.specs.Answers.{run_of}
 use Rattle.dshot_bank_spec.specs.Calls.{command_special_call}

@@ -1,7 +1,6 @@
 -- `dshot_bank::DshotBank::from_lanes` meets its contract.
 -- Assumes nothing.
 use Rattle.dshot_bank_spec.specs.Commands.{from_lanes}
-use Rattle.std.proofs.Common.{rules}
 use Rattle.dshot_bank.proofs.DshotBank.from_lanes.Goals as goal
 
 pub returns : goal.returns

@@ -1,6 +1,6 @@
 -- `dshot_bank::DshotBank::on_dma_interrupt` meets its contract: the interrupt of the lane's motor, or a refusal with no orders.
 -- Assumes nothing.
-use Rattle.std.proofs.Common.{ℕ, [], replicate, sym, refl, ap, ◌∙◌, rules}
+use Rattle.std.proofs.Common.{ℕ, [], replicate, sym, refl, ap, ◌∙◌}
 use Rattle.dshot_bank_spec.specs.Calls.{refused, on_dma_interrupt}
 use Rattle.dshot_bank_spec.specs.Steps.{port_refusal}
 use Rattle.dshot_reply_spec.specs.Refusals.{no_such_motor}
@@ -19,8 +19,11 @@ returns-in-Some c =
     let m = l.in-Some.lane in
     let found = sym (ap choice_of l.in-Some.is) ∙ l.from_index.ensures in
     let h = d.on_dma_interrupt-handled.ensures in
-    record { b_value = λ b. stepped-so a.self b (motor_of m) a.transfer_complete a.dma_error a.turned a.turned_back h
-          ∙ found-step _ (λ (i : ℕ). on_dma_interrupt i a.transfer_complete a.dma_error a.turned a.turned_back) (λ i. refl) _ m found; just = just_so h }
+    record {
+      b_value = λ b. stepped-so a.self b (motor_of m) a.transfer_complete a.dma_error a.turned a.turned_back h
+          ∙ found-step _ (λ (i : ℕ). on_dma_interrupt i a.transfer_complete a.dma_error a.turned a.turned_back) (λ i. refl) _ m found;
+      just = just_so h;
+    }
 
 pub returns-in-None : goal.returns-in-None
 unfolding port_refusal

@@ -1,6 +1,6 @@
 -- `dshot_bank::DshotBank::queue` meets its contract.
 -- Assumes nothing.
-use Rattle.std.proofs.Common.{sym, refl, ap, ◌∙◌, rules}
+use Rattle.std.proofs.Common.{sym, refl, ap, ◌∙◌}
 use Rattle.dshot_bank.proofs.StepLaws.{with_requests, given_so, refused-so}
 use Rattle.dshot_bank_spec.proofs.LaneLaws.{on, off}
 use mathlib.Core.Option.{Option}

@@ -1,8 +1,7 @@
 -- `dshot_bank::DshotBank::reply_stats` meets its contract: before each turn of the loop the three counts of the lanes so far are copied.
 -- Assumes nothing.
-use Rattle.std.proofs.Common.{◌≡◌, ℕ, ◌-◌, length, get_or, sym, refl, ap, ◌∙◌, arith, rules}
-use lib.ListN.{length-map}
-use Rattle.dshot_spec.proofs.Tabulated.{Filled, filled_none, filled_more, filled-all}
+use Rattle.std.proofs.Common.{refl, ap, ◌∙◌, arith}
+use Rattle.dshot_spec.proofs.Tabulated.{filled_none, filled_more, filled-all}
 use Rattle.dshot_bank_spec.specs.State as Spec
 use Rattle.dshot_bank_spec.specs.Calls.{reply_counts}
 use Rattle.dshot_bank_spec.specs.Steps.{port_refusal, step}

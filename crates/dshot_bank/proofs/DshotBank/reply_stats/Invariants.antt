@@ -1,14 +1,7 @@
 -- `dshot_bank::DshotBank::reply_stats` meets its contract: before each turn of the loop the three counts of the lanes so far are copied.
-use Rattle.std.proofs.Common.{◌≡◌, ℕ, ◌-◌, length, get_or, sym, refl, ap, ◌∙◌, arith, rules}
-use lib.ListN.{length-map}
-use Rattle.dshot_spec.proofs.Tabulated.{Filled, filled_none, filled_more, filled-all}
-use Rattle.dshot_bank_spec.specs.State as Spec
-use Rattle.dshot_bank_spec.specs.Calls.{reply_counts}
-use Rattle.dshot_bank_spec.specs.Steps.{port_refusal, step}
-use Rattle.dshot_bank.specs.declared.LaneReply.{LaneReply}
-use Rattle.dshot_bank.specs.States.{lane_reply_of, state_of}
+use Rattle.std.proofs.Common.{◌≡◌, ℕ, ◌-◌, length, get_or}
+use Rattle.dshot_spec.proofs.Tabulated.{Filled}
 use Rattle.dshot_bank.specs.Answers.{no_lane_reply}
-use Rattle.dshot_bank.proofs.ReplyLaws.{get_d_any, tabulate-maps}
 use Rattle.dshot_bank.proofs.DshotBank.reply_stats.Given as goal
 
 abbrev pub invariant-loop-lane : goal.invariant-loop-lane

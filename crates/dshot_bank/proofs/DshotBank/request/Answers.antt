@@ -1,6 +1,6 @@
 -- `dshot_bank::DshotBank::request` meets its contract.
 -- Assumes nothing.
-use Rattle.std.proofs.Common.{sym, refl, ap, ◌∙◌, rules}
+use Rattle.std.proofs.Common.{sym, refl, ap, ◌∙◌}
 use Rattle.dshot_bank.proofs.StepLaws.{given_so, refused-so}
 use Rattle.dshot_bank_spec.proofs.LaneLaws.{on, off}
 use Rattle.dshot_bank_spec.specs.Commands.{request_telemetry}

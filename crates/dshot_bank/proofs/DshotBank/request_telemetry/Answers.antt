@@ -3,7 +3,7 @@
 use Rattle.dshot_bank.proofs.StepLaws.{found-step, missing-step}
 use Rattle.dshot_bank_spec.specs.Calls.{request_telemetry_call}
 use Rattle.dshot_bank_spec.specs.Steps.{port_refusal}
-use Rattle.std.proofs.Common.{sym, refl, ap, ◌∙◌, rules}
+use Rattle.std.proofs.Common.{sym, refl, ap, ◌∙◌}
 use Rattle.dshot_bank.specs.States.{choice_of}
 use Rattle.dshot_bank.proofs.DshotBank.request_telemetry.Goals as goal
 

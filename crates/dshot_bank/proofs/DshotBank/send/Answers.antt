@@ -1,6 +1,6 @@
 -- `dshot_bank::DshotBank::send` meets its contract.
 -- Assumes nothing.
-use Rattle.std.proofs.Common.{Bool, ap, ◌∙◌, rules}
+use Rattle.std.proofs.Common.{Bool, ap, ◌∙◌}
 use Rattle.dshot_bank_spec.specs.State.{Core}
 use Rattle.dshot_bank_spec.specs.Service.{ServiceEvent, sent_event}
 use Rattle.dshot_bank_spec.specs.Calls.{serviced}

@@ -1,6 +1,6 @@
 -- `dshot_bank::DshotBank::sending` meets its contract: if the port refuses, nothing, else the lane's part of the buffer that its mark names.
 -- Assumes nothing.
-use Rattle.std.proofs.Common.{length, sym, refl, ap, ◌∙◌, arith, rules, le-ltb, lt-ltb}
+use Rattle.std.proofs.Common.{length, sym, refl, ap, ◌∙◌, arith, le-ltb, lt-ltb}
 use borrow.Author.Tests.{not-true, not-false}
 use Rattle.dshot_bank_spec.specs.Calls.{Stepped}
 use Rattle.dshot_bank_spec.proofs.LaneLaws.{on, off}

@@ -1,6 +1,6 @@
 -- `dshot_bank::DshotBank::sending_answer` meets its contract: the refusals of the port in its order, else that there is a part.
 -- Assumes nothing.
-use Rattle.std.proofs.Common.{sym, refl, ◌∙◌, rules, le-ltb, lt-ltb}
+use Rattle.std.proofs.Common.{sym, refl, ◌∙◌, le-ltb, lt-ltb}
 use borrow.Author.Tests.{not-true, not-false}
 use Rattle.dshot_bank.proofs.ReplyLaws.{sending-is}
 use Rattle.dshot_bank.proofs.DshotBank.sending_answer.Goals as goal

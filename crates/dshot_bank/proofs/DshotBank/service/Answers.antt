@@ -1,6 +1,6 @@
 -- `dshot_bank::DshotBank::service` meets its contract.
 -- Assumes nothing.
-use Rattle.std.proofs.Common.{Bool, List, [], replicate, sym, refl, ap, ◌∙◌, rules}
+use Rattle.std.proofs.Common.{Bool, List, [], replicate, sym, refl, ap, ◌∙◌}
 use borrow.Author.Tests.{not-true, not-false}
 use Rattle.dshot_bank.proofs.OrderLaws.{back, just}
 use Rattle.dshot_bank_spec.specs.State.{Buffers}
@@ -40,5 +40,8 @@ returns c =
     let told = back r.orders r.first_duties _ h.orders h.duties h.whole in
     let marks = s.bank.core.frame.in_second in
     let answer = ap (λ (l : List Order). service_answer r.answer l marks) told ∙ h.answer marks in
-    record { fact = (λ j. record { answer = answer j; state = record { bank = h.bank j; buffers = h.buffers j } })
-          ∙ sym (ap (λ (t : Bool). refuse_or s (length_refusal t 0) acted) fit); just = just r.orders r.first_duties _ _ h.orders h.duties (ap orders_in answer) }
+    record {
+      fact = (λ j. record { answer = answer j; state = record { bank = h.bank j; buffers = h.buffers j } })
+          ∙ sym (ap (λ (t : Bool). refuse_or s (length_refusal t 0) acted) fit);
+      just = just r.orders r.first_duties _ _ h.orders h.duties (ap orders_in answer);
+    }

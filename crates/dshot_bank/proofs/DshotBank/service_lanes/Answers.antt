@@ -1,6 +1,6 @@
 -- `dshot_bank::DshotBank::service_lanes` meets its contract.
 -- Assumes nothing.
-use Rattle.std.proofs.Common.{[], sym, refl, ap, ◌∙◌, subst, rules}
+use Rattle.std.proofs.Common.{[], sym, refl, ap, ◌∙◌, subst}
 use Rattle.dshot_bank.proofs.OrderLaws.{whole-none}
 use Rattle.dshot_bank_spec.proofs.LaneLaws.{on, off}
 use Rattle.dshot_bank_spec.specs.State.{Core, Buffers}

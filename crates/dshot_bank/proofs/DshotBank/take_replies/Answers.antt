@@ -1,6 +1,6 @@
 -- `dshot_bank::DshotBank::take_replies` meets its contract: if replies are held, what was decoded of each lane. None are held after it.
 -- Assumes nothing.
-use Rattle.std.proofs.Common.{◌≡◌, ℕ, Bool, true, false, arith, rules}
+use Rattle.std.proofs.Common.{◌≡◌, ℕ, Bool, true, false, arith}
 use mathlib.Core.Option.{some, none}
 use borrow.Author.Tests.{not-true, not-false}
 use Rattle.dshot_reply_spec.specs.Answer.{if◌then◌else◌}

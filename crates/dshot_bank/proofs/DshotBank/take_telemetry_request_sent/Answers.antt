@@ -2,7 +2,6 @@
 -- Assumes nothing.
 use Rattle.dshot_bank.proofs.StepLaws.{changed-so}
 use Rattle.dshot_bank_spec.specs.Steps.{step, port_refusal}
-use Rattle.std.proofs.Common.{rules}
 use Rattle.dshot_bank.proofs.DshotBank.take_telemetry_request_sent.Goals as goal
 
 pub returns : goal.returns

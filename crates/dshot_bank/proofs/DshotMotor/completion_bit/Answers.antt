@@ -1,6 +1,6 @@
 -- `dshot_bank::DshotMotor::completion_bit` meets its contract.
 -- Assumes nothing.
-use Rattle.std.proofs.Common.{sym, ap, rules}
+use Rattle.std.proofs.Common.{sym, ap}
 use Rattle.dshot_bank.specs.declared.DshotMotor.{DshotMotor}
 use Rattle.dshot_bank_spec.specs.Interrupt.{completion_bit}
 use Rattle.dshot_bank.specs.States.{motor_of}

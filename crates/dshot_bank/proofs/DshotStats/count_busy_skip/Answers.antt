@@ -1,6 +1,5 @@
 -- `dshot_bank::DshotStats::count_busy_skip` meets its contract.
 -- Assumes nothing.
-use Rattle.std.proofs.Common.{rules}
 use Rattle.dshot_bank.proofs.DshotStats.count_busy_skip.Goals as goal
 
 pub returns : goal.returns

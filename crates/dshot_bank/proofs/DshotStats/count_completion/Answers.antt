@@ -1,6 +1,6 @@
 -- `dshot_bank::DshotStats::count_completion` meets its contract.
 -- Assumes nothing.
-use Rattle.std.proofs.Common.{◌≡◌, ℕ, List, get_or, set, sym, ap, ◌∙◌, ⊎_elim, rules}
+use Rattle.std.proofs.Common.{◌≡◌, ℕ, List, get_or, set, sym, ap, ◌∙◌}
 use Rattle.dshot_bank_spec.specs.Interrupt.{count_completion}
 use Rattle.dshot_bank_spec.specs.Replies.{wrapping_add}
 use Rattle.dshot_bank_spec.specs.With.{with_lane_completions}
@@ -23,8 +23,8 @@ pub returns : goal.returns
 returns c =
     let s = c.args.self in
     elim c.match-motor.branch [
-      in-Motor1 w ↦ counted s Motor1 w.in-Motor1.is w.wrapping_add.ensures w.counts-is
-    | in-Motor2 w ↦ counted s Motor2 w.in-Motor2.is w.wrapping_add-in-Motor2.ensures w.counts-is
-    | in-Motor3 w ↦ counted s Motor3 w.in-Motor3.is w.wrapping_add-in-Motor3.ensures w.counts-is
-    | in-Motor4 w ↦ counted s Motor4 w.in-Motor4.is w.wrapping_add-in-Motor4.ensures w.counts-is
+      | in-Motor1 w ↦ counted s Motor1 w.in-Motor1.is w.wrapping_add.ensures w.counts-is
+      | in-Motor2 w ↦ counted s Motor2 w.in-Motor2.is w.wrapping_add-in-Motor2.ensures w.counts-is
+      | in-Motor3 w ↦ counted s Motor3 w.in-Motor3.is w.wrapping_add-in-Motor3.ensures w.counts-is
+      | in-Motor4 w ↦ counted s Motor4 w.in-Motor4.is w.wrapping_add-in-Motor4.ensures w.counts-is
     ]

@@ -1,7 +1,6 @@
 -- `dshot_bank::DshotStats::count_fault` meets its contract.
 -- Assumes nothing.
 use Rattle.dshot_bank.proofs.SendLaws.{pick-not}
-use Rattle.std.proofs.Common.{rules}
 use Rattle.dshot_bank.proofs.DshotStats.count_fault.Goals as goal
 
 pub returns : goal.returns

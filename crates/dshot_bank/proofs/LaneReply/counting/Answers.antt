@@ -1,6 +1,6 @@
 -- `dshot_bank::LaneReply::counting` meets its contract: the count that `is_ok` names goes up, as in `count_reply`.
 -- Assumes nothing.
-use Rattle.std.proofs.Common.{sym, refl, ◌∙◌, rules}
+use Rattle.std.proofs.Common.{sym, refl, ◌∙◌}
 use Rattle.dshot_bank_spec.specs.Replies.{count_reply}
 use Rattle.dshot_bank_spec.proofs.LaneLaws.{on, off}
 use Rattle.dshot_bank.proofs.LaneReply.counting.Goals as goal

@@ -1,6 +1,6 @@
 -- `dshot_bank::Requests::carrying` meets its contract.
 -- Assumes nothing.
-use Rattle.std.proofs.Common.{sym, refl, ◌∙◌, rules}
+use Rattle.std.proofs.Common.{sym, refl, ◌∙◌}
 use Rattle.dshot_bank_spec.proofs.LaneLaws.{on, off}
 use Rattle.dshot_bank.proofs.Requests.carrying.Goals as goal
 

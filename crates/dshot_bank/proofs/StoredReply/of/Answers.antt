@@ -1,6 +1,6 @@
 -- `dshot_bank::StoredReply::of` meets its contract: case by case, what is stored answers as what was read.
 -- Assumes nothing.
-use Rattle.std.proofs.Common.{◌≡◌, sym, ap, ◌∙◌, rules}
+use Rattle.std.proofs.Common.{◌≡◌, sym, ap, ◌∙◌}
 use Rattle.dshot_reply_spec.specs.Answer.{given, refused}
 use Rattle.dshot_reply.specs.declared.DshotReply.{DshotReply}
 use Rattle.dshot_reply.specs.declared.DshotReplyError.{DshotReplyError}

@@ -1,6 +1,6 @@
 -- `dshot_bank::StoredReply::read` meets its contract: case by case, the reader's answer is what is stored.
 -- Assumes nothing.
-use Rattle.std.proofs.Common.{sym, ap, rules}
+use Rattle.std.proofs.Common.{sym, ap}
 use Rattle.dshot_bank.specs.States.{stored_answer}
 use Rattle.dshot_bank.proofs.StoredReply.read.Goals as goal
 

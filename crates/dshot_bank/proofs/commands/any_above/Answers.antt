@@ -1,7 +1,7 @@
 -- `dshot_bank::commands::any_above` meets its contract.
 -- Assumes nothing.
-use Rattle.dshot_bank_spec.proofs.LaneLaws.{Passed, passed_none, passed-more, any-hit, any-miss}
-use Rattle.std.proofs.Common.{◌-◌, ltb, rules, le-ltb, lt-ltb}
+use Rattle.dshot_bank_spec.proofs.LaneLaws.{passed_none, passed-more, any-hit, any-miss}
+use Rattle.std.proofs.Common.{rules, le-ltb, lt-ltb}
 use Rattle.dshot_bank.proofs.commands.any_above.Goals as goal
 
 pub loop-lane-init : goal.loop-lane-init

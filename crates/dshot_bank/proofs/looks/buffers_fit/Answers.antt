@@ -1,6 +1,6 @@
 -- `dshot_bank::looks::buffers_fit` meets its contract: the two tests of `slots_fit`.
 -- Assumes nothing.
-use Rattle.std.proofs.Common.{refl, rules, eq-eqb, ne_eqb}
+use Rattle.std.proofs.Common.{refl, eq-eqb, ne_eqb}
 use Rattle.dshot_bank_spec.proofs.LaneLaws.{on, off}
 use Rattle.dshot_bank.proofs.looks.buffers_fit.Goals as goal
 

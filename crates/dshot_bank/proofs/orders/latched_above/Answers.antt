@@ -1,6 +1,6 @@
 -- `dshot_bank::orders::latched_above` meets its contract, by how many orders stand below.
 -- Assumes nothing.
-use Rattle.std.proofs.Common.{◌≡◌, ℕ, sym, ap, arith, rules}
+use Rattle.std.proofs.Common.{◌≡◌, ℕ, sym, ap, arith}
 use Rattle.dshot_spec.specs.Tabulate.{tabulate}
 use Rattle.dshot_bank_spec.specs.Order.{latch_orders}
 use Rattle.dshot_bank.specs.Orders.{codes_of, above}

@@ -1,16 +1,15 @@
 -- `dshot_bank::replies::decode_replies` meets its contract: before each turn of the first loop the windows of the lanes so far are read, and before
 -- each turn of the second what was read of them is counted.
 -- Assumes nothing.
-use Rattle.std.proofs.Common.{◌≡◌, ℕ, ◌-◌, ◌*◌, ◌<◌, Bool, false, List, map, length, get_or, refl, ap, ◌∙◌, arith, rules}
+use Rattle.std.proofs.Common.{◌≡◌, ℕ, ◌<◌, false, List, map, length, get_or, refl, ap, ◌∙◌, arith, rules}
 use lib.ListN.{length-map}
 use Rattle.dshot_reply_spec.specs.Answer.{Answer, refused}
 use Rattle.dshot_reply_spec.specs.Refusals.{no_reply}
 use Rattle.dshot_reply_spec.specs.Value.{Reading}
 use Rattle.dshot_spec.specs.Tabulate.{tabulate}
-use Rattle.dshot_spec.proofs.Tabulated.{Filled, filled_none, filled_more, filled-all}
-use Rattle.dshot_bank_spec.specs.State as Spec
+use Rattle.dshot_spec.proofs.Tabulated.{filled_none, filled_more, filled-all}
 use Rattle.dshot_bank_spec.specs.Commands.{no_replies}
-use Rattle.dshot_bank_spec.specs.Replies.{window, read_window, count_reply, decode_replies}
+use Rattle.dshot_bank_spec.specs.Replies.{read_window, count_reply, decode_replies}
 use Rattle.dshot_bank_spec.proofs.LaneLaws.{map-set}
 use Rattle.dshot_bank.specs.States.{stored_answer, lane_reply_of, replies_of}
 use Rattle.dshot_bank.proofs.ReplyLaws.{map_at, part-is}

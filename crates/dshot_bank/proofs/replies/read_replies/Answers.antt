@@ -1,6 +1,6 @@
 -- `dshot_bank::replies::read_replies` meets its contract: if a window waits, it is decoded, else all stays.
 -- Assumes nothing.
-use Rattle.std.proofs.Common.{refl, rules}
+use Rattle.std.proofs.Common.{refl}
 use Rattle.dshot_bank_spec.specs.Service.{read_replies}
 use Rattle.dshot_bank_spec.proofs.LaneLaws.{on, off}
 use Rattle.dshot_bank.proofs.replies.read_replies.Goals as goal

@@ -1,6 +1,6 @@
 -- `dshot_bank::replies::read_window` meets its contract: if a capture is present, what the reader makes of the window, else no reply.
 -- Assumes nothing.
-use Rattle.std.proofs.Common.{refl, rules}
+use Rattle.std.proofs.Common.{refl}
 use Rattle.dshot_bank_spec.proofs.LaneLaws.{on, off}
 use Rattle.dshot_bank.proofs.replies.read_window.Goals as goal
 

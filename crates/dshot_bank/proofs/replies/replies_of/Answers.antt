@@ -1,8 +1,8 @@
 -- `dshot_bank::replies::replies_of` meets its contract: before each turn of the loop the replies of the lanes so far are read out.
 -- Assumes nothing.
-use Rattle.std.proofs.Common.{◌≡◌, ℕ, ◌-◌, List, length, get_or, ap, ◌∙◌, arith, rules}
+use Rattle.std.proofs.Common.{◌≡◌, List, length, ap, ◌∙◌, arith, rules}
 use Rattle.dshot_reply.specs.Answers.{reply_answer}
-use Rattle.dshot_spec.proofs.Tabulated.{Filled, filled_none, filled_more, filled-all}
+use Rattle.dshot_spec.proofs.Tabulated.{filled_none, filled_more, filled-all}
 use Rattle.dshot_bank_spec.specs.State as Spec
 use Rattle.dshot_bank_spec.proofs.LaneLaws.{map-set}
 use Rattle.dshot_bank.specs.declared.LaneReply.{LaneReply}

@@ -1,14 +1,8 @@
 -- `dshot_bank::replies::replies_of` meets its contract: before each turn of the loop the replies of the lanes so far are read out.
-use Rattle.std.proofs.Common.{◌≡◌, ℕ, ◌-◌, List, length, get_or, ap, ◌∙◌, arith, rules}
-use Rattle.dshot_reply.specs.Answers.{reply_answer}
-use Rattle.dshot_spec.proofs.Tabulated.{Filled, filled_none, filled_more, filled-all}
-use Rattle.dshot_bank_spec.specs.State as Spec
-use Rattle.dshot_bank_spec.proofs.LaneLaws.{map-set}
-use Rattle.dshot_bank.specs.declared.LaneReply.{LaneReply}
-use Rattle.dshot_bank.specs.declared.replies.TakenReply.{TakenReply}
-use Rattle.dshot_bank.specs.States.{stored_answer, lane_reply_of}
+use Rattle.std.proofs.Common.{ℕ, ◌-◌, get_or}
+use Rattle.dshot_spec.proofs.Tabulated.{Filled}
+use Rattle.dshot_bank.specs.States.{stored_answer}
 use Rattle.dshot_bank.specs.Answers.{no_lane_reply, answers_of}
-use Rattle.dshot_bank.proofs.ReplyLaws.{get_d_any, tabulate-maps}
 use Rattle.dshot_bank.proofs.replies.replies_of.Given as goal
 
 abbrev pub invariant-loop-lane : goal.invariant-loop-lane

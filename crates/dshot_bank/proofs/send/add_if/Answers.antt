@@ -1,7 +1,7 @@
 -- `dshot_bank::send::add_if` meets its contract.
 -- Assumes nothing.
 use Rattle.dshot_bank_spec.proofs.LaneLaws.{on, off}
-use Rattle.std.proofs.Common.{refl, rules}
+use Rattle.std.proofs.Common.{refl}
 use Rattle.dshot_bank.proofs.send.add_if.Goals as goal
 
 pub returns-then-counted : goal.returns-then-counted

@@ -1,6 +1,6 @@
 -- `dshot_bank::send::as_lane` meets its contract.
 -- Assumes nothing.
-use Rattle.std.proofs.Common.{sym, ap, ◌∙◌, rules}
+use Rattle.std.proofs.Common.{sym, ap, ◌∙◌}
 use Rattle.dshot_spec.specs.Packet as Packet
 use Rattle.dshot_bank_spec.specs.FrameSet.{as_lane}
 use Rattle.dshot_bank.specs.declared.MotorChoice.{MotorChoice}

@@ -1,6 +1,6 @@
 -- `dshot_bank::send::encode` meets its contract.
 -- Assumes nothing.
-use Rattle.std.proofs.Common.{◌≡◌, sym, ap, ◌∙◌, rules}
+use Rattle.std.proofs.Common.{◌≡◌, sym, ap, ◌∙◌}
 use Rattle.dshot_bank.proofs.SendLaws.{slots-written, duty-returned, never-refused}
 use Rattle.dshot.specs.Answers.{timing_of, first_answer}
 use Rattle.dshot_reply_spec.specs.Answer.{given}

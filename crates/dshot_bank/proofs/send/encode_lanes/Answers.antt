@@ -1,15 +1,13 @@
 -- `dshot_bank::send::encode_lanes` meets its contract.
 -- Assumes nothing.
-use Rattle.std.proofs.Common.{◌≡◌, ℕ, ◌-◌, ◌*◌, false, length, get_or, sym, refl, ap, ◌∙◌, rules}
+use Rattle.std.proofs.Common.{ℕ, false, get_or, sym, refl, ap, ◌∙◌, rules}
 use lib.ListN.{get_or-map}
 use Rattle.dshot_bank_spec.proofs.LaneLaws.{each_none, each_more, each_all}
-use Rattle.dshot_spec.proofs.Tabulated.{Filled, filled_none, filled_more, filled-all}
+use Rattle.dshot_spec.proofs.Tabulated.{filled_none, filled_more, filled-all}
 use Rattle.dshot_spec.specs.Sequence.{sequence_of}
 use Rattle.dshot.specs.declared.DshotPacket.{DshotPacket}
-use Rattle.dshot.specs.Answers.{timing_of, words}
-use Rattle.dshot_bank_spec.specs.Lanes.{each}
-use Rattle.dshot_bank_spec.specs.State.{Buffers}
-use Rattle.dshot_bank_spec.specs.FrameSet.{write_spare, encode_lane, encode_lanes}
+use Rattle.dshot.specs.Answers.{timing_of}
+use Rattle.dshot_bank_spec.specs.FrameSet.{write_spare, encode_lanes}
 use Rattle.dshot_bank.proofs.send.encode_lanes.Goals as goal
 
 pub loop-lane-init : goal.loop-lane-init

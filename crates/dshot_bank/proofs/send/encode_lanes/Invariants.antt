@@ -1,14 +1,11 @@
 -- `dshot_bank::send::encode_lanes` meets its contract.
-use Rattle.std.proofs.Common.{◌≡◌, ℕ, ◌-◌, ◌*◌, false, length, get_or, sym, refl, ap, ◌∙◌, rules}
-use lib.ListN.{get_or-map}
-use Rattle.dshot_bank_spec.proofs.LaneLaws.{each_none, each_more, each_all}
-use Rattle.dshot_spec.proofs.Tabulated.{Filled, filled_none, filled_more, filled-all}
+use Rattle.std.proofs.Common.{◌≡◌, ◌-◌, ◌*◌, length, get_or}
+use Rattle.dshot_spec.proofs.Tabulated.{Filled}
 use Rattle.dshot_spec.specs.Sequence.{sequence_of}
-use Rattle.dshot.specs.declared.DshotPacket.{DshotPacket}
 use Rattle.dshot.specs.Answers.{timing_of, words}
 use Rattle.dshot_bank_spec.specs.Lanes.{each}
 use Rattle.dshot_bank_spec.specs.State.{Buffers}
-use Rattle.dshot_bank_spec.specs.FrameSet.{write_spare, encode_lane, encode_lanes}
+use Rattle.dshot_bank_spec.specs.FrameSet.{encode_lane}
 use Rattle.dshot_bank.proofs.send.encode_lanes.Given as goal
 
 abbrev pub invariant-loop-lane : goal.invariant-loop-lane

@@ -1,6 +1,6 @@
 -- `dshot_bank::send::encode_spares` meets its contract: the lengths are tested, and then all is written.
 -- Assumes nothing.
-use Rattle.std.proofs.Common.{replicate, sym, refl, ◌∙◌, rules}
+use Rattle.std.proofs.Common.{replicate, sym, refl, ◌∙◌}
 use borrow.Author.Tests.{not-true, not-false}
 use Rattle.dshot_reply_spec.specs.Refusals.{wrong_length}
 use Rattle.dshot.specs.Answers.{words, timing_of}

@@ -1,7 +1,7 @@
 -- `dshot_bank::send::lanes_taken` meets its contract.
 -- Assumes nothing.
-use Rattle.dshot_bank_spec.proofs.LaneLaws.{Passed, passed_none, passed-more, position-hit, position-miss}
-use Rattle.std.proofs.Common.{◌-◌, false, not, rules}
+use Rattle.dshot_bank_spec.proofs.LaneLaws.{passed_none, passed-more, position-hit, position-miss}
+use Rattle.std.proofs.Common.{rules}
 use Rattle.dshot_bank.proofs.send.lanes_taken.Goals as goal
 
 pub loop-lane-init : goal.loop-lane-init

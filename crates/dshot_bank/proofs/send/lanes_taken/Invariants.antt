@@ -1,6 +1,6 @@
 -- `dshot_bank::send::lanes_taken` meets its contract.
-use Rattle.dshot_bank_spec.proofs.LaneLaws.{Passed, passed_none, passed-more, position-hit, position-miss}
-use Rattle.std.proofs.Common.{◌-◌, false, not, rules}
+use Rattle.dshot_bank_spec.proofs.LaneLaws.{Passed}
+use Rattle.std.proofs.Common.{◌-◌, false, not}
 use Rattle.dshot_bank.proofs.send.lanes_taken.Given as goal
 
 abbrev pub invariant-loop-lane : goal.invariant-loop-lane

@@ -4,7 +4,7 @@ use Rattle.dshot_bank_spec.specs.Commands.{next_of}
 use Rattle.dshot.specs.declared.CommandValue.{CommandValue}
 use Rattle.dshot.specs.Answers.{command_of, run_of}
 use Rattle.dshot_bank.specs.States.{motor_of}
-use Rattle.std.proofs.Common.{sym, ap, ◌∙◌, rules}
+use Rattle.std.proofs.Common.{sym, ap, ◌∙◌}
 use mathlib.Core.Option.{Option, some}
 use Rattle.dshot_bank_spec.specs.State.{MotorRun}
 use Rattle.dshot_bank.proofs.send.next_of.Goals as goal

@@ -1,6 +1,6 @@
 -- `dshot_bank::send::next_of_run` meets its contract.
 -- Assumes nothing.
-use Rattle.std.proofs.Common.{sym, ap, ◌∙◌, rules}
+use Rattle.std.proofs.Common.{sym, ap, ◌∙◌}
 use Rattle.dshot_bank_spec.specs.Commands.{next_of, next_of_run}
 use Rattle.dshot_spec.specs.Command.{Next}
 use Rattle.dshot_bank.specs.declared.MotorRun.{MotorRun}

@@ -1,6 +1,6 @@
 -- `dshot_bank::send::one_lane` meets its contract.
 -- Assumes nothing.
-use Rattle.std.proofs.Common.{set, replicate, sym, ap, rules}
+use Rattle.std.proofs.Common.{set, replicate, sym, ap}
 use Rattle.dshot_bank.specs.declared.DshotMotor.{DshotMotor}
 use Rattle.dshot_bank.specs.States.{motor_of}
 use Rattle.dshot_bank.proofs.send.one_lane.Goals as goal

@@ -1,8 +1,7 @@
 -- `dshot_bank::send::turn_marks` meets its contract.
 -- Assumes nothing.
-use Rattle.dshot_spec.proofs.Tabulated.{Filled, filled_none, filled_more, filled-all}
-use Rattle.dshot_reply_spec.specs.Answer.{pick}
-use Rattle.std.proofs.Common.{◌-◌, false, not, ltb, get_or, rules}
+use Rattle.dshot_spec.proofs.Tabulated.{filled_none, filled_more, filled-all}
+use Rattle.std.proofs.Common.{rules}
 use Rattle.dshot_bank.proofs.send.turn_marks.Goals as goal
 
 pub loop-lane-init : goal.loop-lane-init

@@ -1,7 +1,7 @@
 -- `dshot_bank::send::turn_marks` meets its contract.
-use Rattle.dshot_spec.proofs.Tabulated.{Filled, filled_none, filled_more, filled-all}
+use Rattle.dshot_spec.proofs.Tabulated.{Filled}
 use Rattle.dshot_reply_spec.specs.Answer.{pick}
-use Rattle.std.proofs.Common.{◌-◌, false, not, ltb, get_or, rules}
+use Rattle.std.proofs.Common.{◌-◌, false, not, ltb, get_or}
 use Rattle.dshot_bank.proofs.send.turn_marks.Given as goal
 
 abbrev pub invariant-loop-lane : goal.invariant-loop-lane

@@ -2,7 +2,6 @@
 -- Assumes nothing.
 use Rattle.dshot_bank_spec.proofs.LaneLaws.{on, off}
 use Rattle.dshot_bank.proofs.SendLaws.{part-back}
-use Rattle.std.proofs.Common.{rules}
 use Rattle.dshot_bank.proofs.send.write_spare.Goals as goal
 
 pub returns-then-in_second : goal.returns-then-in_second

@@ -1,6 +1,6 @@
 -- `dshot_bank::service::lengths_fit` meets its contract.
 -- Assumes nothing.
-use Rattle.std.proofs.Common.{sym, refl, ◌∙◌, rules}
+use Rattle.std.proofs.Common.{sym, refl, ◌∙◌}
 use Rattle.dshot_bank_spec.proofs.LaneLaws.{on, off}
 use borrow.Author.Tests.{not-true, not-false}
 use Rattle.dshot_bank.proofs.service.lengths_fit.Goals as goal

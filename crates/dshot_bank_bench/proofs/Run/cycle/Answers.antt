@@ -1,6 +1,6 @@
 -- `dshot_bank_bench::Run::cycle` meets its contract.
 -- Assumes nothing.
-use Rattle.std.proofs.Common.{true, replicate, ap, ◌∙◌, rules}
+use Rattle.std.proofs.Common.{true, replicate, ap, ◌∙◌}
 use Rattle.dshot_bank_spec.specs.Calls.{service_call}
 use Rattle.dshot_bank_bench.specs.Cycles.{Run, after, interrupts}
 use Rattle.dshot_bank_bench.proofs.Run.cycle.Goals as goal

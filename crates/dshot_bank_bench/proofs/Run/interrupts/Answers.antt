@@ -1,10 +1,8 @@
 -- `dshot_bank_bench::Run::interrupts` meets its contract: before each turn of the loop the run is after the interrupts so far.
 -- Assumes nothing.
-use Rattle.std.proofs.Common.{◌≡◌, ◌-◌, ◌%◌, ◌≤◌, true, false, sym, refl, ap, ◌∙◌, arith, rules}
-use Rattle.dshot_bank_spec.specs.State.{Buffers}
+use Rattle.std.proofs.Common.{◌≡◌, ◌%◌, true, false, sym, refl, ap, ◌∙◌, arith, rules}
 use Rattle.dshot_bank_spec.specs.Calls.{on_dma_interrupt}
 use Rattle.dshot_bank_bench.specs.Cycles.{Run, after, interrupts}
-use Rattle.dshot_bank_bench.specs.Runs.{run_of}
 use Rattle.dshot_bank_bench.proofs.CycleLaws.{interrupts-more}
 use Rattle.dshot_bank_bench.proofs.Run.interrupts.Goals as goal
 

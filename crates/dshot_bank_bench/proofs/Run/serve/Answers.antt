@@ -1,6 +1,6 @@
 -- `dshot_bank_bench::Run::serve` meets its contract.
 -- Assumes nothing.
-use Rattle.std.proofs.Common.{ℕ, ap, ◌∙◌, rules}
+use Rattle.std.proofs.Common.{ℕ, ap, ◌∙◌}
 use Rattle.dshot_bank.specs.States.{state_of}
 use Rattle.dshot_bank_bench.specs.Cycles.{add_all}
 use Rattle.dshot_bank_bench.proofs.CycleLaws.{told-so, after-so}

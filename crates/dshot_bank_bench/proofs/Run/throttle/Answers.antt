@@ -1,7 +1,5 @@
 -- `dshot_bank_bench::Run::throttle` meets its contract.
 -- Assumes nothing.
-use Rattle.dshot_bank_bench.specs.Cycles.{Run}
-use Rattle.std.proofs.Common.{rules}
 use Rattle.dshot_bank_bench.proofs.Run.throttle.Goals as goal
 
 pub returns : goal.returns

@@ -1,7 +1,6 @@
 -- `dshot_reply::DshotReply::from_value` meets its contract.
 -- Assumes nothing.
 use borrow.Author.Tests.{eq-eqb, ne_eqb}
-use borrow.Author.Rules.{rules}
 use Rattle.dshot_reply_spec.specs.Value.{reply_of}
 use Rattle.dshot_reply.proofs.DshotReply.from_value.Goals as goal
 

@@ -5,7 +5,6 @@ use Prim.Native.Nat.{◌/◌, ◌%◌}
 use native.Mathlib.Omega.{arith}
 use lib.Dec.{lit≤}
 use borrow.Author.Tests.{eq-eqb, ne_eqb}
-use borrow.Author.Rules.{rules}
 use Rattle.dshot_reply_spec.specs.Value.{period_of}
 use Rattle.dshot_reply_spec.specs.ValuePeriod.{value_period}
 use Rattle.dshot_reply.proofs.WordLaws.{period-shl, step-shl}

@@ -2,13 +2,12 @@
 -- as they were.
 -- Assumes nothing.
 use mathlib.Core.Path.{◌≡◌, refl, ◌∙◌}
-use mathlib.Core.List.{◌++◌, append-nil}
-use Prim.Native.Nat.{◌-◌, ◌≤◌, zero-le}
+use mathlib.Core.List.{append-nil}
+use Prim.Native.Nat.{zero-le}
 use native.Mathlib.Omega.{arith}
-use lib.ListN.{length, drop, replicate, length-set}
+use lib.ListN.{length, replicate, length-set}
 use lib.Seq.{drop-length}
 use borrow.Author.Fill.{fill_more}
-use borrow.Author.Rules.{rules}
 use Rattle.dshot_reply.proofs.simulate.fill.Goals as goal
 
 pub loop-i-init : goal.loop-i-init

@@ -1,12 +1,8 @@
 -- `dshot_reply::simulate::fill` makes every slot of the buffer the value. The loop's invariant: the slots passed hold the value, and the others are
-use mathlib.Core.Path.{◌≡◌, refl, ◌∙◌}
-use mathlib.Core.List.{◌++◌, append-nil}
-use Prim.Native.Nat.{◌-◌, ◌≤◌, zero-le}
-use native.Mathlib.Omega.{arith}
-use lib.ListN.{length, drop, replicate, length-set}
-use lib.Seq.{drop-length}
-use borrow.Author.Fill.{fill_more}
-use borrow.Author.Rules.{rules}
+use mathlib.Core.Path.{◌≡◌}
+use mathlib.Core.List.{◌++◌}
+use Prim.Native.Nat.{◌-◌, ◌≤◌}
+use lib.ListN.{length, drop, replicate}
 use Rattle.dshot_reply.proofs.simulate.fill.Given as goal
 
 abbrev pub invariant-loop-i : goal.invariant-loop-i

@@ -1,11 +1,11 @@
 -- `dshot_reply::simulate::period_value` gives the value of a period. The loop's invariant: scaling what is left, from the exponent on, gives what
 -- scaling the period gives.
 -- Assumes nothing.
-use mathlib.Core.Path.{◌≡◌, refl, sym, ap, ◌∙◌}
-use Prim.Native.Nat.{◌-◌, ◌^◌, ◌≤◌, ◌<◌}
+use mathlib.Core.Path.{refl, sym, ap, ◌∙◌}
+use Prim.Native.Nat.{◌-◌}
 use borrow.Author.Tests.{eq-eqb, ne_eqb, lt-ltb, le-ltb}
 use Rattle.dshot_reply_spec.specs.Answer.{given}
-use Rattle.dshot_reply_spec.specs.Period.{scaled, period_value}
+use Rattle.dshot_reply_spec.specs.Period.{period_value}
 use Rattle.dshot_reply_spec.proofs.PeriodLaws.{grows, halved, scaled-more, scaled-done}
 use borrow.Author.Rules.{rules}
 use Rattle.dshot_reply.proofs.simulate.period_value.Goals as goal

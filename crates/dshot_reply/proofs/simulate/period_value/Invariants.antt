@@ -1,11 +1,7 @@
 -- `dshot_reply::simulate::period_value` gives the value of a period. The loop's invariant: scaling what is left, from the exponent on, gives what
-use mathlib.Core.Path.{◌≡◌, refl, sym, ap, ◌∙◌}
+use mathlib.Core.Path.{◌≡◌}
 use Prim.Native.Nat.{◌-◌, ◌^◌, ◌≤◌, ◌<◌}
-use borrow.Author.Tests.{eq-eqb, ne_eqb, lt-ltb, le-ltb}
-use Rattle.dshot_reply_spec.specs.Answer.{given}
-use Rattle.dshot_reply_spec.specs.Period.{scaled, period_value}
-use Rattle.dshot_reply_spec.proofs.PeriodLaws.{grows, halved, scaled-more, scaled-done}
-use borrow.Author.Rules.{rules}
+use Rattle.dshot_reply_spec.specs.Period.{scaled}
 use Rattle.dshot_reply.proofs.simulate.period_value.Given as goal
 
 abbrev pub invariant-loop-left : goal.invariant-loop-left

@@ -4,7 +4,6 @@
 use mathlib.Core.Path.{◌≡◌, sym, ap, ◌∙◌}
 use native.Mathlib.Omega.{arith}
 use lib.ListN.{length}
-use borrow.Author.Rules.{rules}
 use Rattle.dshot_reply.specs.declared.simulate.Simulated.TheVariants.{NoMask, WrongLength}
 use Rattle.dshot_reply.proofs.SimLaws.{accepted, all-written, kept}
 use Rattle.dshot_reply.specs.Answers.{simulated_number}

@@ -1,12 +1,11 @@
 -- `dshot_reply::simulate::write_bits` leaves the word's samples in the buffer. The loop's invariant: three samples are written for each bit passed.
 -- Assumes nothing.
 use mathlib.Core.Path.{◌≡◌, refl, ◌∙◌}
-use Prim.Native.Nat.{suc, ◌+◌, ◌*◌, ◌-◌, ◌≤◌}
+use Prim.Native.Nat.{suc, ◌+◌, ◌*◌, ◌-◌}
 use native.Mathlib.Omega.{arith}
 use lib.ListN.{length, take, drop, length-drop}
 use lib.Seq.{length-take-le}
-use borrow.Author.Rules.{rules}
-use Rattle.dshot_reply.proofs.SimLaws.{Left, after, left-start, after-start, left-next, after_next, after-end}
+use Rattle.dshot_reply.proofs.SimLaws.{Left, left-start, after-start, left-next, after_next, after-end}
 use Rattle.dshot_reply.proofs.simulate.write_bits.Goals as goal
 
 pub loop-left-init : goal.loop-left-init

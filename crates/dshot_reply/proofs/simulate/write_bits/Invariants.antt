@@ -1,11 +1,8 @@
 -- `dshot_reply::simulate::write_bits` leaves the word's samples in the buffer. The loop's invariant: three samples are written for each bit passed.
-use mathlib.Core.Path.{◌≡◌, refl, ◌∙◌}
-use Prim.Native.Nat.{suc, ◌+◌, ◌*◌, ◌-◌, ◌≤◌}
-use native.Mathlib.Omega.{arith}
-use lib.ListN.{length, take, drop, length-drop}
-use lib.Seq.{length-take-le}
-use borrow.Author.Rules.{rules}
-use Rattle.dshot_reply.proofs.SimLaws.{Left, after, left-start, after-start, left-next, after_next, after-end}
+use mathlib.Core.Path.{◌≡◌}
+use Prim.Native.Nat.{◌+◌, ◌*◌, ◌-◌, ◌≤◌}
+use lib.ListN.{length}
+use Rattle.dshot_reply.proofs.SimLaws.{Left, after}
 use Rattle.dshot_reply.proofs.simulate.write_bits.Given as goal
 
 abbrev pub invariant-loop-left : goal.invariant-loop-left

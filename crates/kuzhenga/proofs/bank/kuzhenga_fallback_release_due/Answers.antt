@@ -2,7 +2,6 @@
 -- Assumes nothing.
 use mathlib.Core.Path.{sym, ap, ◌∙◌}
 use Rattle.dshot_spec.specs.Packet.{flag}
-use borrow.Author.Rules.{rules}
 use Rattle.kuzhenga.proofs.bank.kuzhenga_fallback_release_due.Goals as goal
 
 pub returns-then-fallback_release_due : goal.returns-then-fallback_release_due

@@ -9,7 +9,6 @@ use Rattle.capture_file.specs.declared.line.Line.{Line}
 use Rattle.kuzhenga.specs.CaptureSlots.{count_slot, line_bytes}
 use Rattle.kuzhenga.specs.Slots.{one}
 use Rattle.kuzhenga.proofs.SlotLaws.{all_set, asked-not, asked-so}
-use borrow.Author.Rules.{rules}
 use Rattle.kuzhenga.proofs.capture.kuzhenga_list_capture.Goals as goal
 
 pub returns-then-line-ne-LINE_ROOM : goal.returns-then-line-ne-LINE_ROOM

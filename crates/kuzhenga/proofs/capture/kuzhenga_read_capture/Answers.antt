@@ -12,7 +12,6 @@ use Rattle.capture_file.specs.FileAnswers.{read_answer}
 use Rattle.kuzhenga.specs.CaptureSlots.{capture_slots}
 use Rattle.kuzhenga.proofs.SlotLaws.{all_set}
 use Rattle.kuzhenga.proofs.CaptureLaws.{wrong-slots, refused-on, given-on, told-slots}
-use borrow.Author.Rules.{rules}
 use Rattle.kuzhenga.proofs.capture.kuzhenga_read_capture.Goals as goal
 
 pub returns-then-about-ne3 : goal.returns-then-about-ne3

@@ -12,7 +12,6 @@ use Rattle.kuzhenga.specs.CaptureSlots.{count_slot}
 use Rattle.kuzhenga.specs.Slots.{one}
 use Rattle.kuzhenga.proofs.SlotLaws.{all_set}
 use Rattle.kuzhenga.proofs.CaptureLaws.{wrong-slots, refused-on, given-on}
-use borrow.Author.Rules.{rules}
 use Rattle.kuzhenga.proofs.capture.kuzhenga_write_capture.Goals as goal
 
 pub returns-then-file_length-ne1 : goal.returns-then-file_length-ne1

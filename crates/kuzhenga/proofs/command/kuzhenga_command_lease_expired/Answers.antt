@@ -2,7 +2,6 @@
 -- Assumes nothing.
 use mathlib.Core.Path.{sym, ap, ◌∙◌}
 use Rattle.dshot_spec.specs.Packet.{flag}
-use borrow.Author.Rules.{rules}
 use Rattle.kuzhenga.proofs.command.kuzhenga_command_lease_expired.Goals as goal
 
 pub returns-then-command_lease_expired : goal.returns-then-command_lease_expired

@@ -7,7 +7,6 @@ use Rattle.kuzhenga.specs.FrameSlots.{run_slots, command_slots}
 use Rattle.dshot_reply_spec.proofs.Answered.{refused-both, given_both}
 use Rattle.kuzhenga.proofs.SlotLaws.{asked-not, asked-so, entries}
 use Rattle.kuzhenga.proofs.FrameLaws.{spent}
-use borrow.Author.Rules.{rules}
 use Rattle.kuzhenga.proofs.command.kuzhenga_command_next_value.Goals as goal
 
 pub returns-then-sequence-ne4 : goal.returns-then-sequence-ne4

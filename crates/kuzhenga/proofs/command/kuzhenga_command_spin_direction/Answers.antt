@@ -4,7 +4,6 @@ use mathlib.Core.Path.{ap, ◌∙◌}
 use Rattle.kuzhenga.specs.FrameSlots.{run_slots}
 use Rattle.dshot_reply_spec.proofs.Answered.{given_so}
 use Rattle.kuzhenga.proofs.SlotLaws.{asked-so, wrong-length}
-use borrow.Author.Rules.{rules}
 use Rattle.kuzhenga.proofs.command.kuzhenga_command_spin_direction.Goals as goal
 
 pub returns-then-sequence-ne4 : goal.returns-then-sequence-ne4

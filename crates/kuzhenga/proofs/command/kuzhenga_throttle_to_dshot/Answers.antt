@@ -2,7 +2,6 @@
 -- Assumes nothing.
 use mathlib.Core.Path.{◌∙◌}
 use Rattle.kuzhenga.proofs.FrameLaws.{capped}
-use borrow.Author.Rules.{rules}
 use Rattle.kuzhenga.proofs.command.kuzhenga_throttle_to_dshot.Goals as goal
 
 pub returns-then-value-gt2000 : goal.returns-then-value-gt2000

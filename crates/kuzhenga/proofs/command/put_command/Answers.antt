@@ -6,7 +6,6 @@ use Rattle.dshot.specs.Answers.{command_of}
 use Rattle.dshot.specs.declared.CommandValue.{CommandValue}
 use Rattle.kuzhenga.specs.FrameSlots.{command_slots}
 use Rattle.kuzhenga.proofs.SlotLaws.{all_set}
-use borrow.Author.Rules.{rules}
 use Rattle.kuzhenga.proofs.command.put_command.Goals as goal
 
 pub returns-in-None : goal.returns-in-None

@@ -7,7 +7,6 @@ use lib.ListN.{get_or}
 use Rattle.dshot_spec.specs.Command.{CommandRun, send, counted}
 use Rattle.kuzhenga.specs.FrameSlots.{run_at}
 use Rattle.kuzhenga.proofs.FrameLaws.{due}
-use borrow.Author.Rules.{rules}
 use Rattle.kuzhenga.proofs.command.run_at.Goals as goal
 
 pub returns : goal.returns

@@ -11,7 +11,6 @@ use Rattle.kuzhenga.specs.FrameSlots.{frame_slots, timing_at}
 use Rattle.dshot_reply_spec.proofs.Answered.{refused-so}
 use Rattle.kuzhenga.proofs.SlotLaws.{asked-not, asked-so}
 use Rattle.kuzhenga.proofs.FrameLaws.{not-sixteen, neither}
-use borrow.Author.Rules.{rules}
 use Rattle.kuzhenga.proofs.frame_read.kuzhenga_read_compare_sequence.Goals as goal
 
 pub returns-then-timing-ne4 : goal.returns-then-timing-ne4

@@ -8,7 +8,6 @@ use Rattle.dshot_reply_spec.specs.Refusals.{wrong_packet_checksum}
 use Rattle.dshot_spec.specs.Packet.{read_packet}
 use Rattle.kuzhenga.specs.FrameSlots.{frame_slots, read_wide}
 use Rattle.kuzhenga.proofs.SlotLaws.{asked-so, wrong-length, passed_on}
-use borrow.Author.Rules.{rules}
 use Rattle.kuzhenga.proofs.frame_read.kuzhenga_read_packet.Goals as goal
 
 pub returns-then-frame-ne3 : goal.returns-then-frame-ne3

@@ -6,7 +6,6 @@ use Rattle.dshot.specs.Answers.{frame_answer}
 use Rattle.kuzhenga.specs.FrameSlots.{frame_slots}
 use Rattle.dshot_reply_spec.proofs.Answered.{given_so, refused-so}
 use Rattle.kuzhenga.proofs.SlotLaws.{all_set}
-use borrow.Author.Rules.{rules}
 use Rattle.kuzhenga.proofs.frame_read.put_frame.Goals as goal
 
 pub returns-in-Frame : goal.returns-in-Frame

@@ -3,7 +3,6 @@
 use mathlib.Core.Path.{sym, ◌∙◌}
 use Rattle.dshot_spec.proofs.PacketReads.{packet-low}
 use Rattle.dshot_spec.specs.Packet.{inverted}
-use borrow.Author.Rules.{rules}
 use Rattle.kuzhenga.proofs.packet.kuzhenga_packet_from_value_bidirectional.Goals as goal
 
 pub returns : goal.returns

@@ -8,7 +8,6 @@ use Rattle.dshot.specs.Answers.{packet_answer}
 use Rattle.kuzhenga.specs.Slots.{one}
 use Rattle.dshot_reply_spec.proofs.Answered.{refused-so}
 use Rattle.kuzhenga.proofs.SlotLaws.{asked-so, wrong-length, done, passed_on}
-use borrow.Author.Rules.{rules}
 use Rattle.kuzhenga.proofs.packet.kuzhenga_packet_try_from_value.Goals as goal
 
 pub returns-then-packet-ne1 : goal.returns-then-packet-ne1

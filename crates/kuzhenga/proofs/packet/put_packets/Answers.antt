@@ -2,14 +2,11 @@
 -- Assumes nothing.
 use mathlib.Core.Path.{◌∙◌}
 use mathlib.Core.List.{List}
-use Prim.Native.Nat.{ℕ, ◌-◌}
-use lib.ListN.{get_or}
-use Rattle.dshot_spec.specs.Packet.{packet_word, lane, asks, motor_packets}
-use Rattle.dshot.specs.Answers.{kind_of}
+use Prim.Native.Nat.{ℕ}
+use Rattle.dshot_spec.specs.Packet.{motor_packets}
 use Rattle.dshot_reply_spec.proofs.Answered.{refused-so, given_so}
-use Rattle.dshot_spec.proofs.Tabulated.{Filled, filled_none, filled_more, filled-all}
+use Rattle.dshot_spec.proofs.Tabulated.{filled_none, filled_more, filled-all}
 use Rattle.kuzhenga.proofs.SlotLaws.{asked-not, asked-so}
-use borrow.Author.Rules.{rules}
 use Rattle.kuzhenga.proofs.packet.put_packets.Goals as goal
 
 pub returns-then-values-ne4 : goal.returns-then-values-ne4

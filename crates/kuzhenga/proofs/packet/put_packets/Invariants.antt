@@ -1,14 +1,9 @@
 -- `kuzhenga::packet::put_packets` meets its contract: before each turn of the loop the packets of the lanes so far are in their slots.
-use mathlib.Core.Path.{◌∙◌}
-use mathlib.Core.List.{List}
 use Prim.Native.Nat.{ℕ, ◌-◌}
 use lib.ListN.{get_or}
-use Rattle.dshot_spec.specs.Packet.{packet_word, lane, asks, motor_packets}
+use Rattle.dshot_spec.specs.Packet.{packet_word, lane, asks}
 use Rattle.dshot.specs.Answers.{kind_of}
-use Rattle.dshot_reply_spec.proofs.Answered.{refused-so, given_so}
-use Rattle.dshot_spec.proofs.Tabulated.{Filled, filled_none, filled_more, filled-all}
-use Rattle.kuzhenga.proofs.SlotLaws.{asked-not, asked-so}
-use borrow.Author.Rules.{rules}
+use Rattle.dshot_spec.proofs.Tabulated.{Filled}
 use Rattle.kuzhenga.proofs.packet.put_packets.Given as goal
 
 abbrev pub invariant-loop-index : goal.invariant-loop-index

@@ -1,7 +1,6 @@
 -- `kuzhenga::reply::kuzhenga_decode_sampled_reply` answers as `sampled_reply`, with the reading in its three slots; lent another number of slots, it
 -- answers 13.
 -- Assumes nothing.
-use borrow.Author.Rules.{rules}
 use Rattle.kuzhenga.specs.Slots.{reading_slots}
 use Rattle.kuzhenga.proofs.SlotLaws.{wrong-length, passed_on}
 use Rattle.kuzhenga.proofs.reply.kuzhenga_decode_sampled_reply.Goals as goal

@@ -1,7 +1,6 @@
 -- `kuzhenga::reply::kuzhenga_period_value` answers as `period_value`, with the value in its one slot; lent another number of slots, it answers 13.
 -- Assumes nothing.
 use mathlib.Core.Path.{refl, sym, ap, ◌∙◌}
-use borrow.Author.Rules.{rules}
 use Rattle.dshot_reply.specs.Answers.{period_answer}
 use Rattle.kuzhenga.specs.Slots.{one}
 use Rattle.kuzhenga.proofs.SlotLaws.{wrong-length, done, passed_on}

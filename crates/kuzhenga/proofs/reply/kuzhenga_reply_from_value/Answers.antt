@@ -1,6 +1,5 @@
 -- `kuzhenga::reply::kuzhenga_reply_from_value` answers as `reply_of`, with the reading in its three slots; lent another number of slots, it answers 13.
 -- Assumes nothing.
-use borrow.Author.Rules.{rules}
 use Rattle.kuzhenga.specs.Slots.{reading_slots}
 use Rattle.kuzhenga.proofs.SlotLaws.{wrong-length, passed_on}
 use Rattle.kuzhenga.proofs.reply.kuzhenga_reply_from_value.Goals as goal

@@ -1,7 +1,6 @@
 -- `kuzhenga::reply::kuzhenga_reply_transitions` answers as `transitions_of`, with the word in its two slots; lent another number of slots, it answers 13.
 -- Assumes nothing.
 use mathlib.Core.Path.{refl, sym, ap, ◌∙◌}
-use borrow.Author.Rules.{rules}
 use Rattle.dshot_reply.specs.Answers.{transitions_answer}
 use Rattle.kuzhenga.specs.Slots.{halves}
 use Rattle.kuzhenga.proofs.SlotLaws.{wrong-length, done, passed_on}

@@ -1,7 +1,6 @@
 -- `kuzhenga::reply::kuzhenga_value_period` answers as `value_period`, with the period and its step in two slots; lent another number, it answers 13.
 -- Assumes nothing.
 use mathlib.Core.Path.{refl, sym, ap, ◌∙◌}
-use borrow.Author.Rules.{rules}
 use Rattle.dshot_reply.specs.Answers.{value_period_answer}
 use Rattle.kuzhenga.specs.Slots.{period_slots}
 use Rattle.kuzhenga.proofs.SlotLaws.{wrong-length, done, passed_on}

@@ -2,7 +2,6 @@
 -- Assumes nothing.
 use mathlib.Core.Path.{◌∙◌}
 use mathlib.Core.List.{◌∷◌}
-use borrow.Author.Rules.{rules}
 use Rattle.kuzhenga.specs.Slots.{halves}
 use Rattle.kuzhenga.proofs.SlotLaws.{all_set}
 use Rattle.kuzhenga.proofs.reply.put_reply.Goals as goal

@@ -2,7 +2,6 @@
 -- Assumes nothing.
 use Rattle.dshot_spec.specs.Tabulate.{tabulate}
 use Rattle.kuzhenga.proofs.SlotLaws.{entries}
-use borrow.Author.Rules.{rules}
 use Rattle.kuzhenga.proofs.slots.four_values.Goals as goal
 
 pub returns : goal.returns

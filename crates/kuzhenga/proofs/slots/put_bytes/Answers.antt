@@ -1,13 +1,12 @@
 -- `kuzhenga::slots::put_bytes` copies byte by byte: those before `i` are the same.
 -- Assumes nothing.
-use mathlib.Core.Path.{◌≡◌, refl, sym, ap, ◌∙◌}
+use mathlib.Core.Path.{refl, sym, ap, ◌∙◌}
 use mathlib.Core.List.{List, [], ◌∷◌, ◌++◌}
-use Prim.Native.Nat.{ℕ, ◌-◌, ◌≤◌}
+use Prim.Native.Nat.{ℕ}
 use native.Mathlib.Numerals.{add-one}
 use native.Mathlib.Omega.{arith}
-use lib.ListN.{length, take, get_or, length-set}
+use lib.ListN.{get_or, length-set}
 use lib.Seq.{take_all, take-suc, take-suc-set}
-use borrow.Author.Rules.{rules}
 use Rattle.kuzhenga.proofs.slots.put_bytes.Goals as goal
 
 pub loop-i-init : goal.loop-i-init

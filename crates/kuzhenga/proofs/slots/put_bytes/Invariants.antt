@@ -1,12 +1,7 @@
 -- `kuzhenga::slots::put_bytes` copies byte by byte: those before `i` are the same.
-use mathlib.Core.Path.{◌≡◌, refl, sym, ap, ◌∙◌}
-use mathlib.Core.List.{List, [], ◌∷◌, ◌++◌}
-use Prim.Native.Nat.{ℕ, ◌-◌, ◌≤◌}
-use native.Mathlib.Numerals.{add-one}
-use native.Mathlib.Omega.{arith}
-use lib.ListN.{length, take, get_or, length-set}
-use lib.Seq.{take_all, take-suc, take-suc-set}
-use borrow.Author.Rules.{rules}
+use mathlib.Core.Path.{◌≡◌}
+use Prim.Native.Nat.{◌-◌, ◌≤◌}
+use lib.ListN.{length, take}
 use Rattle.kuzhenga.proofs.slots.put_bytes.Given as goal
 
 abbrev pub invariant-loop-i : goal.invariant-loop-i

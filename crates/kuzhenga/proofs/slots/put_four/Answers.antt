@@ -2,7 +2,6 @@
 -- Assumes nothing.
 use mathlib.Core.List.{[], ◌∷◌}
 use Rattle.kuzhenga.proofs.SlotLaws.{all_set}
-use borrow.Author.Rules.{rules}
 use Rattle.kuzhenga.proofs.slots.put_four.Goals as goal
 
 pub returns : goal.returns

@@ -8,7 +8,6 @@ use Rattle.dshot_reply_spec.proofs.Answered.{refused-so, given_so}
 use Rattle.dshot_spec.specs.Timing.{Timing, duty_for_bit}
 use Rattle.kuzhenga.specs.Slots.{one}
 use Rattle.kuzhenga.proofs.SlotLaws.{all_set, asked-not, asked-so}
-use borrow.Author.Rules.{rules}
 use Rattle.kuzhenga.proofs.timing.kuzhenga_duty_for_bit.Goals as goal
 
 pub returns-then-timing-ne4 : goal.returns-then-timing-ne4

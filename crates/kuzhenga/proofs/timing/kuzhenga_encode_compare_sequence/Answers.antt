@@ -3,7 +3,7 @@
 use mathlib.Core.Path.{sym, ap, ◌∙◌}
 use mathlib.Core.List.{[], ◌∷◌}
 use Prim.Native.Nat.{◌%◌}
-use Rattle.dshot_reply_spec.specs.Answer.{given, filled}
+use Rattle.dshot_reply_spec.specs.Answer.{filled}
 use Rattle.dshot_spec.specs.Sequence.{Sequence, encoded_sequence, first_duty}
 use Rattle.dshot_spec.specs.Timing.{Timing}
 use Rattle.dshot.specs.Answers.{first_answer}
@@ -12,7 +12,6 @@ use Rattle.kuzhenga.specs.Slots.{one}
 use Rattle.dshot_reply_spec.proofs.Answered.{refused-both, given_both}
 use Rattle.kuzhenga.proofs.SlotLaws.{all_set, asked-not, asked-so}
 use Rattle.kuzhenga.proofs.FrameLaws.{of-sequence, of-refused}
-use borrow.Author.Rules.{rules}
 use Rattle.kuzhenga.proofs.timing.kuzhenga_encode_compare_sequence.Goals as goal
 
 pub returns-then-timing-ne4 : goal.returns-then-timing-ne4

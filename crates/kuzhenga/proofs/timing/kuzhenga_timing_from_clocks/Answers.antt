@@ -5,7 +5,6 @@ use Rattle.dshot.specs.Answers.{timing_answer}
 use Rattle.kuzhenga.specs.FrameSlots.{timing_slots}
 use Rattle.dshot_reply_spec.proofs.Answered.{given_so}
 use Rattle.kuzhenga.proofs.SlotLaws.{asked-so, wrong-length, passed_on}
-use borrow.Author.Rules.{rules}
 use Rattle.kuzhenga.proofs.timing.kuzhenga_timing_from_clocks.Goals as goal
 
 pub returns-then-timing-ne4 : goal.returns-then-timing-ne4

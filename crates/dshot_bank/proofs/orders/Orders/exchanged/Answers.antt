@@ -1,6 +1,6 @@
 -- `dshot_bank::orders::Orders::exchanged` meets its contract, lane by lane.
 -- Assumes nothing.
-use Rattle.std.proofs.Common.{◌≡◌, ℕ, ◌+◌, sym, refl, ap, arith}
+use Rattle.std.proofs.Common.{◌≡◌, ℕ, ◌+◌, sym, ap, arith}
 use Rattle.dshot_spec.specs.Tabulate.{tabulate}
 use Rattle.dshot_bank_spec.specs.Order.{exchange_buffer}
 use Rattle.dshot_bank.specs.Orders.{held}

@@ -1,6 +1,6 @@
 -- `dshot_bank::orders::Orders::first` meets its contract.
 -- Assumes nothing.
-use Rattle.std.proofs.Common.{◌%◌, refl, rules, eq-eqb, ne_eqb}
+use Rattle.std.proofs.Common.{◌%◌, refl, eq-eqb, ne_eqb}
 use Rattle.dshot_bank_spec.proofs.LaneLaws.{on, off}
 use Rattle.dshot_bank.proofs.orders.Orders.first.Goals as goal
 

@@ -1,6 +1,6 @@
 -- `dshot_bank::orders::Orders::latched` meets its contract: outputs low, then every stream paused, behind the others.
 -- Assumes nothing.
-use Rattle.std.proofs.Common.{ℕ, ◌+◌, refl, ap, ◌∙◌, arith, rules}
+use Rattle.std.proofs.Common.{◌+◌, refl, ◌∙◌, arith}
 use Rattle.dshot_spec.specs.Tabulate.{tabulate}
 use Rattle.dshot_bank_spec.specs.Order.{latch_orders}
 use Rattle.dshot_bank.proofs.OrderLaws.{held-append}

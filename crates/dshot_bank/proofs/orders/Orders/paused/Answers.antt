@@ -1,6 +1,6 @@
 -- `dshot_bank::orders::Orders::paused` meets its contract.
 -- Assumes nothing.
-use Rattle.std.proofs.Common.{◌≡◌, ◌+◌, ◌*◌, refl, arith, rules}
+use Rattle.std.proofs.Common.{◌≡◌, ◌+◌, ◌*◌, refl, arith}
 use Rattle.dshot_bank.specs.States.{motor_of}
 use Rattle.dshot_bank.specs.Orders.{held}
 use Rattle.dshot_bank.proofs.StepLaws.{motor-small}

@@ -1,8 +1,8 @@
 -- `dshot_bank::orders::Orders::then` meets its contract.
 -- Assumes nothing.
-use Rattle.std.proofs.Common.{◌≡◌, ◌+◌, ◌*◌, ◌≤◌, sym, refl, ap, ◌∙◌, arith, rules}
+use Rattle.std.proofs.Common.{◌≡◌, ◌+◌, ◌*◌, refl, ap, arith}
 use Rattle.dshot_bank.specs.declared.orders.Orders.{Orders}
-use Rattle.dshot_bank.specs.Orders.{kind_number, held}
+use Rattle.dshot_bank.specs.Orders.{held}
 use Rattle.dshot_bank_spec.specs.OrderNumber.{code}
 use Rattle.dshot_bank.proofs.OrderLaws.{kind-small}
 use Rattle.dshot_bank.proofs.orders.Orders.then.Goals as goal
