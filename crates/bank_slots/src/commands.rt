@@ -4,8 +4,7 @@
 //
 // The calls that make a bank and command it: demands, runs of special commands, and telemetry requests.
 
-ghost use Rattle.std.specs.Prelude.{◌≡◌, ◌<◌, true, length, nat_lt};
-ghost use Rattle.dshot_reply_spec.specs.Answer.{if◌then◌else◌};
+ghost use Rattle.std.specs.Prelude.{◌≡◌, ◌<◌, true, length, nat_lt, if◌then◌else◌};
 ghost use Rattle.dshot_reply_spec.specs.Refusals.{wrong_length};
 ghost use Rattle.dshot_bank_spec.specs.Lanes.{any};
 ghost use Rattle.dshot_bank_spec.specs.State.{Buffers};

@@ -4,8 +4,8 @@
 //
 // The calls that only look at a bank, the taking of its replies, and the view of the sequence that a lane is sending.
 
-ghost use Rattle.std.specs.Prelude.{◌≡◌, ◌+◌, ◌<◌, [], ◌∷◌, length};
-ghost use Rattle.dshot_reply_spec.specs.Answer.{refused, if◌then◌else◌};
+ghost use Rattle.std.specs.Prelude.{◌≡◌, ◌+◌, ◌<◌, [], ◌∷◌, length, if◌then◌else◌};
+ghost use Rattle.dshot_reply_spec.specs.Answer.{refused};
 ghost use Rattle.dshot_reply_spec.specs.Refusals.{no_reply, wrong_length};
 ghost use Rattle.dshot_reply.specs.Answers.{reply_answer};
 ghost use Rattle.dshot_bank_spec.specs.State.{Buffers};

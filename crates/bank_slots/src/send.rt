@@ -4,9 +4,8 @@
 //
 // Sending a frame set.
 
-ghost use Rattle.std.specs.Prelude.{◌≡◌, ◌+◌, ◌*◌, ◌<◌, Bool, not, [], ◌∷◌, ◌++◌, length, set, replicate, slice_set};
+ghost use Rattle.std.specs.Prelude.{◌≡◌, ◌+◌, ◌*◌, ◌<◌, Bool, not, [], ◌∷◌, ◌++◌, length, set, replicate, slice_set, if◌then◌else◌};
 ghost use Rattle.std.proofs.Math.Option.{none};
-ghost use Rattle.dshot_reply_spec.specs.Answer.{if◌then◌else◌};
 ghost use Rattle.dshot.specs.Answers.{kind_of, lane_of, timing_of};
 ghost use Rattle.dshot_bank_spec.specs.Lanes.{position};
 ghost use Rattle.dshot_bank_spec.specs.State.{Core, Bank, Buffers};

@@ -4,8 +4,7 @@
 //
 // The service of a bank: the lease, the frame in flight, the replies that wait, and the next frame set.
 
-ghost use Rattle.std.specs.Prelude.{◌≡◌, ◌*◌, Bool, true, false, [], ◌∷◌, ◌++◌, length, replicate};
-ghost use Rattle.dshot_reply_spec.specs.Answer.{if◌then◌else◌};
+ghost use Rattle.std.specs.Prelude.{◌≡◌, ◌*◌, Bool, true, false, [], ◌∷◌, ◌++◌, length, replicate, if◌then◌else◌};
 ghost use Rattle.dshot_bank_spec.specs.State.{Core, Bank, Buffers};
 ghost use Rattle.dshot_bank_spec.specs.Send.{latch_fault};
 ghost use Rattle.dshot_bank_spec.specs.Service as Spec;

@@ -3,9 +3,8 @@
 //
 // The steps on a bank's state that several calls share: a stop, a run put or cleared, a cleared request, and a latched fault.
 
-ghost use Rattle.std.specs.Prelude.{◌≡◌, ◌+◌, ◌<◌, length};
+ghost use Rattle.std.specs.Prelude.{◌≡◌, ◌+◌, ◌<◌, length, if◌then◌else◌};
 ghost use Rattle.std.proofs.Math.Option.{none};
-ghost use Rattle.dshot_reply_spec.specs.Answer.{if◌then◌else◌};
 ghost use Rattle.dshot.specs.Answers.{run_of};
 ghost use Rattle.dshot_bank_spec.specs.Commands.{command_stop, clear_request_sent, cancel_telemetry_request};
 ghost use Rattle.dshot_bank_spec.specs.With.{with_command_sequence};

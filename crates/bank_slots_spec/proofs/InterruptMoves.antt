@@ -1,5 +1,6 @@
 -- What the steps of an interrupt write, and what that does to the bank in the slots.
 -- Assumes nothing.
+use Rattle.std.specs.Prelude.{if◌then◌else◌}
 use mathlib.Core.Path.{◌≡◌, ◌∙◌, refl, sym, ap}
 use mathlib.Core.Bool.{Bool, true, false, not}
 use mathlib.Core.List.{List, [], ◌∷◌}
@@ -9,7 +10,7 @@ use lib.Bits.{bit_and, bit_or}
 use lib.Dec.{eqb}
 use lib.ListN.{length}
 use borrow.Author.Tests.{eq-eqb, ne_eqb}
-use Rattle.dshot_reply_spec.specs.Answer.{pick, if◌then◌else◌}
+use Rattle.dshot_reply_spec.specs.Answer.{pick}
 use Rattle.dshot_spec.specs.Tabulate.{tabulate}
 use Rattle.dshot_bank_spec.specs.State.{Stats, Core, Bank, Buffers}
 use Rattle.dshot_bank_spec.specs.With.{with_completion_mask, with_busy, with_receiving, with_replies_waiting, with_frames_completed, with_frame, with_stats, with_core}

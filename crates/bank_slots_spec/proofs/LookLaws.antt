@@ -1,6 +1,7 @@
 -- What the calls that only look at the bank in the slots promise, and the taking of its replies. The laws are for a slice of another length, and for
 -- slices that all fit.
 -- Assumes nothing.
+use Rattle.std.specs.Prelude.{if◌then◌else◌}
 use mathlib.Core.Path.{◌≡◌, ◌∙◌, refl, sym, ap}
 use mathlib.Core.Bool.{Bool, true, false, not}
 use mathlib.Core.List.{List, [], ◌∷◌, ◌++◌, append_assoc}
@@ -10,7 +11,7 @@ use native.Mathlib.Omega.{arith}
 use lib.Dec.{eqb}
 use lib.ListN.{length, get_or, set, take, drop, length-set}
 use lib.Seq.{take_all}
-use Rattle.dshot_reply_spec.specs.Answer.{pick, given, refused, if◌then◌else◌}
+use Rattle.dshot_reply_spec.specs.Answer.{pick, given, refused}
 use Rattle.dshot_reply_spec.specs.Refusals.{no_reply}
 use Rattle.dshot_reply_spec.specs.Answer as Reply
 use Rattle.dshot_reply_spec.specs.Value.{Reading}

@@ -1,6 +1,7 @@
 -- Lists of exported calls that run. On the slots of a bank, each call leaves those of the bank after it. A call whose slices do not fit leaves any
 -- slots as they were. A definition of such lists that left some of these out would not prove this.
 -- Assumes nothing.
+use Rattle.std.specs.Prelude.{if◌then◌else◌}
 use mathlib.Core.Path.{◌≡◌, ◌∙◌, refl, sym, ap}
 use mathlib.Core.Bool.{Bool, true, false}
 use mathlib.Core.List.{List, [], ◌∷◌}
@@ -9,7 +10,6 @@ use native.Mathlib.Omega.{arith}
 use lib.Dec.{ltb}
 use lib.ListN.{drop}
 use borrow.Author.Tests.{ltb-true}
-use Rattle.dshot_reply_spec.specs.Answer.{if◌then◌else◌}
 use Rattle.dshot_reply_spec.specs.Refusals.{wrong_length}
 use Rattle.dshot_spec.specs.Timing.{Timing}
 use Rattle.dshot_bank_spec.specs.State.{Bank, Buffers}

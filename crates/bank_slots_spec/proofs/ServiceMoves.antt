@@ -1,5 +1,6 @@
 -- What the steps of a service write, and what that does to the bank in the slots.
 -- Assumes nothing.
+use Rattle.std.specs.Prelude.{if◌then◌else◌}
 use mathlib.Core.Path.{◌≡◌, ◌∙◌, refl, sym, ap}
 use mathlib.Core.Bool.{Bool, true, false}
 use mathlib.Core.List.{List, [], ◌∷◌}
@@ -11,7 +12,6 @@ use lib.ListN.{length, replicate}
 use borrow.Author.Tests.{eq-eqb, ne_eqb}
 use Rattle.dshot_spec.specs.Tabulate.{tabulate}
 use Rattle.dshot_spec.specs.Lease.{elapsed, lease_expired}
-use Rattle.dshot_reply_spec.specs.Answer.{if◌then◌else◌}
 use Rattle.dshot_bank_spec.specs.State.{Stats, Core, Bank, Buffers, lease_of}
 use Rattle.dshot_bank_spec.specs.With.{with_busy_skips, with_lease_expiries, with_frame_timeouts, with_replies_waiting, with_replies_held, with_frame, with_core}
 use Rattle.dshot_bank_spec.specs.Order.{latch_orders}

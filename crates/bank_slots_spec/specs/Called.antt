@@ -1,8 +1,7 @@
 -- What an exported call of a bank answers, and what it does to the slots that it is lent. It takes one step of the bank in the slots, or it refuses.
 -- Added: document 01 asks for calls from C.
 -- Assumes nothing.
-use Rattle.std.specs.Prelude.{ℕ, ◌≡◌, Bool, false, List, eqb, length}
-use Rattle.dshot_reply_spec.specs.Answer.{if◌then◌else◌}
+use Rattle.std.specs.Prelude.{ℕ, ◌≡◌, Bool, false, List, eqb, length, if◌then◌else◌}
 use Rattle.dshot_reply_spec.specs.Refusals.{wrong_length}
 use Rattle.dshot_bank_spec.specs.State.{Bank, Buffers}
 use Rattle.dshot_bank_spec.specs.Calls.{Call, Answer, done, refused, motor_sent, serviced, interrupted, replied, flag, counts, values, reply_counts, slots, State}

@@ -1,9 +1,9 @@
 -- How an exported call of a bank puts its answer into the slots that it is lent.
 -- Added: document 01 asks for calls from C.
 -- Assumes nothing.
-use Rattle.std.specs.Prelude.{Bool, false, not, ℕ, ◌+◌, ◌-◌, ◌*◌, ◌/◌, ◌%◌, List, [], ◌∷◌, ◌++◌, map, eqb, length, replicate, get_or}
+use Rattle.std.specs.Prelude.{Bool, false, not, ℕ, ◌+◌, ◌-◌, ◌*◌, ◌/◌, ◌%◌, List, [], ◌∷◌, ◌++◌, map, eqb, length, replicate, get_or, if◌then◌else◌}
 use Rattle.std.proofs.Math.Option.{Option, none, some}
-use Rattle.dshot_reply_spec.specs.Answer.{given, refused, if◌then◌else◌}
+use Rattle.dshot_reply_spec.specs.Answer.{given, refused}
 use Rattle.dshot_reply_spec.specs.Refusals.{no_reply}
 use Rattle.dshot_reply_spec.specs.Answer as Reply
 use Rattle.dshot_reply_spec.specs.Value.{Reading}

@@ -1,6 +1,6 @@
 -- The parts of a bank's steps, as the code takes them one after another. Only private functions cite this.
 -- Assumes nothing.
-use Rattle.std.specs.Prelude.{ℕ, ◌+◌, true, false, Bool, List, [], ◌∷◌}
+use Rattle.std.specs.Prelude.{ℕ, ◌+◌, true, false, Bool, List, [], ◌∷◌, if◌then◌else◌}
 use Rattle.std.proofs.Math.Option.{Option, none, some}
 use Rattle.dshot_spec.specs.Throttle.{throttle_values}
 use Rattle.dshot_spec.specs.Command.{CommandRun}
@@ -10,7 +10,6 @@ use Rattle.dshot_bank_spec.specs.Replies.{wrapping_add}
 use Rattle.dshot_bank_spec.specs.Commands.{next_command_frame}
 use Rattle.dshot_bank_spec.specs.Service.{replies_read, read_replies}
 use Rattle.dshot_bank_spec.specs.Send.{count_fault, turn_marks, carry}
-use Rattle.dshot_reply_spec.specs.Answer.{if◌then◌else◌}
 use Rattle.bank_slots_spec.specs.Memory.{Row, ◌holds◌, at, write, word, word_rows}
 
 -- the slots with one more in the count at slot k

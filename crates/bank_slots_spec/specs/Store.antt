@@ -1,9 +1,9 @@
 -- The contents of the 97 slots that are written for a bank.
 -- Added: document 01 asks for calls from C.
 -- Assumes nothing.
-use Rattle.std.specs.Prelude.{ℕ, ◌+◌, ◌*◌, Bool, false, List, [], ◌∷◌, ◌++◌, get_or, replicate}
+use Rattle.std.specs.Prelude.{ℕ, ◌+◌, ◌*◌, Bool, false, List, [], ◌∷◌, ◌++◌, get_or, replicate, if◌then◌else◌}
 use Rattle.std.proofs.Math.Option.{Option, none, some}
-use Rattle.dshot_reply_spec.specs.Answer.{Answer, given, refused, if◌then◌else◌}
+use Rattle.dshot_reply_spec.specs.Answer.{Answer, given, refused}
 use Rattle.dshot_reply_spec.specs.Value.{Reading}
 use Rattle.dshot_reply_spec.specs.Kind.{kind_number, reading_number}
 use Rattle.dshot_spec.specs.Timing.{Timing}

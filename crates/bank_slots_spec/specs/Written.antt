@@ -1,8 +1,7 @@
 -- The contents that the library writes. The test looks only at slots whose contents can differ and still mean the same bank.
 -- Added: document 01 asks for calls from C.
 -- Assumes nothing.
-use Rattle.std.specs.Prelude.{ℕ, ◌+◌, ◌≡◌, Bool, true, false, List, eqb, ltb}
-use Rattle.dshot_reply_spec.specs.Answer.{if◌then◌else◌}
+use Rattle.std.specs.Prelude.{ℕ, ◌+◌, ◌≡◌, Bool, true, false, List, eqb, ltb, if◌then◌else◌}
 use Rattle.bank_slots_spec.specs.Memory.{at, word}
 use Rattle.bank_slots_spec.specs.Load.{is_refused_kind}
 use Rattle.bank_slots_spec.specs.Places.{BUSY, FAULTED, BIDIRECTIONAL, RECEIVING, REPLIES_WAITING, REPLIES_HELD, IN_SECOND, REQUEST, REQUEST_SENT, RUN, REPLIES}

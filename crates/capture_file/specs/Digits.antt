@@ -1,7 +1,6 @@
 -- The numbers that the digits of document 01's line stand for. The theorems that digits read back use them.
 -- Assumes nothing.
-use Rattle.std.specs.Prelude.{ℕ, ◌+◌, ◌-◌, ◌*◌, List, [], ◌∷◌, ltb}
-use Rattle.dshot_reply_spec.specs.Answer.{if◌then◌else◌}
+use Rattle.std.specs.Prelude.{ℕ, ◌+◌, ◌-◌, ◌*◌, List, [], ◌∷◌, ltb, if◌then◌else◌}
 
 -- the value of a digit; in ASCII, 0 to 9 stand before a to f
 unfoldable pub digit_value : ℕ → ℕ

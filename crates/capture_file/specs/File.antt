@@ -1,7 +1,7 @@
 -- A capture file, which document 01 adds: the count of samples, the pin mask, EDT, and then the samples.
 -- Assumes nothing.
-use Rattle.std.specs.Prelude.{ℕ, ◌≤◌, Bool, List, [], ◌∷◌, ◌++◌, eqb, ltb, length, drop}
-use Rattle.dshot_reply_spec.specs.Answer.{Answer, given, refused, and_then, if◌then◌else◌}
+use Rattle.std.specs.Prelude.{ℕ, ◌≤◌, Bool, List, [], ◌∷◌, ◌++◌, eqb, ltb, length, drop, if◌then◌else◌}
+use Rattle.dshot_reply_spec.specs.Answer.{Answer, given, refused, and_then}
 use Rattle.dshot_reply_spec.specs.Refusals.{not_acapture, wrong_length}
 use Rattle.capture_file.specs.Groups.{groups, read_number, read_all}
 

@@ -1,7 +1,7 @@
 -- A number of a capture file, which document 01 adds: up to 65535, in groups of seven bits, in the shortest form.
 -- Assumes nothing.
-use Rattle.std.specs.Prelude.{ℕ, zero, suc, ◌+◌, ◌-◌, ◌*◌, ◌/◌, ◌%◌, List, [], ◌∷◌, eqb, ltb}
-use Rattle.dshot_reply_spec.specs.Answer.{Answer, given, refused, and_then, if◌then◌else◌}
+use Rattle.std.specs.Prelude.{ℕ, zero, suc, ◌+◌, ◌-◌, ◌*◌, ◌/◌, ◌%◌, List, [], ◌∷◌, eqb, ltb, if◌then◌else◌}
+use Rattle.dshot_reply_spec.specs.Answer.{Answer, given, refused, and_then}
 use Rattle.dshot_reply_spec.specs.Refusals.{not_acapture}
 
 -- A number up to 65535 in one, two or three groups of seven bits, lowest first. 128 is added to every group except the last.

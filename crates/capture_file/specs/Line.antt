@@ -1,10 +1,10 @@
 -- The line that the bench prints for one capture (document 01, "The bench's line"), as bytes.
 -- Assumes nothing.
-use Rattle.std.specs.Prelude.{ℕ, zero, suc, ◌-◌, ◌/◌, ◌%◌, Bool, List, [], ◌∷◌, ◌++◌, ltb, length, get_or, replicate}
+use Rattle.std.specs.Prelude.{ℕ, zero, suc, ◌-◌, ◌/◌, ◌%◌, Bool, List, [], ◌∷◌, ◌++◌, ltb, length, get_or, replicate, if◌then◌else◌}
 use Prim.Native.Char.{code}
 use Prim.Native.String as Text
 use Prim.Native.String.{String}
-use Rattle.dshot_reply_spec.specs.Answer.{Answer, given, refused, and_then, if◌then◌else◌}
+use Rattle.dshot_reply_spec.specs.Answer.{Answer, given, refused, and_then}
 use Rattle.dshot_reply_spec.specs.Gcr.{decode_word}
 use Rattle.dshot_reply_spec.specs.Kind.{kind_number, reading_number}
 use Rattle.dshot_reply_spec.specs.Runs.{transitions_of}

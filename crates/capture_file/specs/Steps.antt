@@ -1,7 +1,6 @@
 -- What one step of the writer of a line does. Only the contracts of private functions cite this; no public promise does.
 -- Assumes nothing.
-use Rattle.std.specs.Prelude.{ℕ, ◌+◌, List, [], ◌∷◌, ltb, set}
-use Rattle.dshot_reply_spec.specs.Answer.{if◌then◌else◌}
+use Rattle.std.specs.Prelude.{ℕ, ◌+◌, List, [], ◌∷◌, ltb, set, if◌then◌else◌}
 use Rattle.capture_file.specs.declared.line.Line.{Line}
 
 -- a line with one more byte at its end; a full line stays as it is

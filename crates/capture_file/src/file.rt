@@ -1,7 +1,7 @@
 // Added: reads a capture file into slots for its samples, and writes one into a buffer.
 
-ghost use Rattle.std.specs.Prelude.{◌≡◌, true, ◌+◌, ◌≤◌, length, drop};
-ghost use Rattle.dshot_reply_spec.specs.Answer.{and_then, is_given, filled, if◌then◌else◌};
+ghost use Rattle.std.specs.Prelude.{◌≡◌, true, ◌+◌, ◌≤◌, length, drop, if◌then◌else◌};
+ghost use Rattle.dshot_reply_spec.specs.Answer.{and_then, is_given, filled};
 ghost use Rattle.capture_file.specs.Groups.{read_all};
 ghost use Rattle.capture_file.specs.File.{all_groups, capture, read_head, front, slots_of, read_into, written_into, told, byte_count};
 ghost use Rattle.capture_file.specs.FileAnswers.{read_answer, written_answer};

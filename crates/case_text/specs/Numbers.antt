@@ -1,7 +1,6 @@
 -- What the reader of a line finds in its bytes.
 -- Assumes nothing.
-use Rattle.std.specs.Prelude.{ℕ, suc, ◌+◌, ◌-◌, ◌*◌, List, [], ◌∷◌, eqb, ltb, length, drop}
-use Rattle.dshot_reply_spec.specs.Answer.{if◌then◌else◌}
+use Rattle.std.specs.Prelude.{ℕ, suc, ◌+◌, ◌-◌, ◌*◌, List, [], ◌∷◌, eqb, ltb, length, drop, if◌then◌else◌}
 use Rattle.case_text.specs.declared.numbers.Read.{Read}
 use Rattle.case_text.specs.declared.numbers.Read.TheVariants.{Number, Broken}
 

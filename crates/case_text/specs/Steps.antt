@@ -1,7 +1,6 @@
 -- What one step of the reader of a number does. Only the contract of a private function cites this; no public promise does.
 -- Assumes nothing.
-use Rattle.std.specs.Prelude.{ℕ, ltb}
-use Rattle.dshot_reply_spec.specs.Answer.{if◌then◌else◌}
+use Rattle.std.specs.Prelude.{ℕ, ltb, if◌then◌else◌}
 use Rattle.case_text.specs.declared.numbers.Grown.{Grown}
 use Rattle.case_text.specs.declared.numbers.Grown.TheVariants.{To, TooLarge}
 use Rattle.case_text.specs.Numbers.{past64}

@@ -1,7 +1,6 @@
 // Numbers of other widths as the 64-bit ones of a list.
 
-ghost use Rattle.std.specs.Prelude.{◌≡◌, ◌+◌, min};
-ghost use Rattle.dshot_reply_spec.specs.Answer.{if◌then◌else◌};
+ghost use Rattle.std.specs.Prelude.{◌≡◌, ◌+◌, min, if◌then◌else◌};
 
 pub fn wide8(x: u8) -> u64
     ensures { result ≡ x }

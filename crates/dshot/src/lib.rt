@@ -7,8 +7,8 @@
 // The source's requirements: OUTPUT-001, OUTPUT-002, OUTPUT-004, OUTPUT-005, OUTPUT-006, OUTPUT-007, OUTPUT-008, OUTPUT-009. Safety-critical.
 #![tactic(auto)]
 
-ghost use Rattle.std.specs.Prelude.{◌≡◌, ◌+◌, ◌-◌, ◌%◌, ◌<◌, ◌≤◌, min, nat_lt};
-ghost use Rattle.dshot_reply_spec.specs.Answer.{refusal_number, filled, if◌then◌else◌};
+ghost use Rattle.std.specs.Prelude.{◌≡◌, ◌+◌, ◌-◌, ◌%◌, ◌<◌, ◌≤◌, min, nat_lt, if◌then◌else◌};
+ghost use Rattle.dshot_reply_spec.specs.Answer.{refusal_number, filled};
 ghost use Rattle.dshot_reply_spec.specs.Nearest.{nearest};
 ghost use Rattle.dshot_spec.specs.Packet.{plain, inverted, packet_word, try_packet, checksum, asks, motor_packets};
 ghost use Rattle.dshot_spec.specs.Timing.{from_clocks, duty_for_bit};

@@ -1,9 +1,10 @@
 -- Laws of an array of the code and of what its entries stand for: one entry stored, one read, all read in turn. Laws of a lane's part of a buffer.
 -- What the view of a lane answers.
 -- Assumes nothing.
+use Rattle.std.specs.Prelude.{if◌then◌else◌}
 use Rattle.std.proofs.Common.{◌≡◌, ℕ, zero, suc, ◌+◌, ◌-◌, ◌*◌, ◌<◌, Bool, true, false, eqb, ltb, List, [], ◌∷◌, map, length, get_or, take, drop, sym, refl, ap, ◌∙◌, arith, ext_get_or, eqb-true}
 use lib.ListN.{length-map, get_or-map}
-use Rattle.dshot_reply_spec.specs.Answer.{pick, if◌then◌else◌}
+use Rattle.dshot_reply_spec.specs.Answer.{pick}
 use Rattle.dshot_spec.specs.Tabulate.{tabulate, part}
 use Rattle.dshot_spec.proofs.Tabulated.{length-tabulate, get_d_tabulate}
 use Rattle.dshot_reply_spec.specs.Refusals.{no_such_motor}

@@ -1,13 +1,12 @@
 -- What the code's answers mean in the terms of the definitions. Each case of an enum is document 01's number, or says that the call was done.
 -- Assumes nothing.
-use Rattle.std.specs.Prelude.{ℕ, Bool, List, map}
+use Rattle.std.specs.Prelude.{ℕ, Bool, List, map, if◌then◌else◌}
 use Rattle.std.proofs.Math.Option.{some, none}
 use Rattle.dshot_reply_spec.specs.Answer as Reply
 use Rattle.dshot_reply_spec.specs.Value.{Reading}
 use Rattle.dshot_reply.specs.declared.DshotReplyError.TheVariants as DshotReplyError·
 use Rattle.dshot_reply.specs.declared.ReplyRead.TheVariants as ReplyRead·
 use Rattle.dshot_reply.specs.Answers.{reply_answer}
-use Rattle.dshot_reply_spec.specs.Answer.{if◌then◌else◌}
 use Rattle.dshot_bank_spec.specs.Calls as Spec
 use Rattle.dshot_reply_spec.specs.Refusals.{throttle_out_of_range, no_such_motor, faulted, motors_running, command_pending, telemetry_pending, replies_unsupported}
 use Rattle.dshot_bank_spec.specs.Calls.{Answer, done, refused, replied}

@@ -1,8 +1,7 @@
 -- What the code's orders mean in the terms of the definitions. They are one number, with seven bits for each order, and the first duties beside it.
 -- Stands for the calls of the Rust's trait `DshotLanes`.
 -- Assumes nothing.
-use Rattle.std.specs.Prelude.{◌≡◌, ℕ, zero, suc, ◌+◌, ◌-◌, ◌*◌, ◌/◌, ◌%◌, List, [], ◌∷◌, ◌++◌, length, ◌==◌}
-use Rattle.dshot_reply_spec.specs.Answer.{if◌then◌else◌}
+use Rattle.std.specs.Prelude.{◌≡◌, ℕ, zero, suc, ◌+◌, ◌-◌, ◌*◌, ◌/◌, ◌%◌, List, [], ◌∷◌, ◌++◌, length, ◌==◌, if◌then◌else◌}
 use Rattle.dshot_bank_spec.specs.Order.{exchange_buffer, start_dma, start_frame, stop_frame, force_outputs_low, pause_and_clear, begin_receive, end_receive}
 use Rattle.dshot_bank_spec.specs.Order as Spec
 use Rattle.dshot_bank_spec.specs.OrderNumber.{code, duties_in}

@@ -1,9 +1,9 @@
 -- What the code's state means in the terms of the definitions. Stands for `DshotBank` of the Rust's dshot_bank.rs.
 -- Assumes nothing.
-use Rattle.std.specs.Prelude.{ℕ, List, [], ◌∷◌, map, nat_lt}
+use Rattle.std.specs.Prelude.{ℕ, List, [], ◌∷◌, map, nat_lt, if◌then◌else◌}
 use Rattle.std.proofs.Math.Option.{Option, none, some}
 use Rattle.dshot_reply_spec.specs.Answer as Reply
-use Rattle.dshot_reply_spec.specs.Answer.{given, refused, if◌then◌else◌}
+use Rattle.dshot_reply_spec.specs.Answer.{given, refused}
 use Rattle.dshot_reply_spec.specs.Refusals.{no_reply, overlong, invalid_symbol, wrong_checksum, zero_period}
 use Rattle.dshot_reply_spec.specs.Value.{Reading, erpm, temp, volt, amp, debug, state, edt}
 use Rattle.dshot.specs.Answers.{timing_of}

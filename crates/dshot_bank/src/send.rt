@@ -4,8 +4,7 @@
 //
 // Latching a fault, and sending a frame set.
 
-ghost use Rattle.std.specs.Prelude.{◌≡◌, ◌*◌, ◌<◌, not, length, set, replicate, slice_set};
-ghost use Rattle.dshot_reply_spec.specs.Answer.{if◌then◌else◌};
+ghost use Rattle.std.specs.Prelude.{◌≡◌, ◌*◌, ◌<◌, not, length, set, replicate, slice_set, if◌then◌else◌};
 ghost use Rattle.dshot_reply_spec.specs.Refusals.{wrong_length};
 ghost use Rattle.dshot_spec.specs.Sequence.{sequence_of};
 ghost use Rattle.dshot.specs.Answers.{kind_of, lane_of, words, timing_of, command_of, run_of};

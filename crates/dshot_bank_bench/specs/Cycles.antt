@@ -1,8 +1,7 @@
 -- Cycles of a bank, as the benchmark needs them. Each cycle is some calls of the bank, whose orders are added up. All cycles together leave a bank
 -- with its buffers, and a sum.
 -- Assumes nothing.
-use Rattle.std.specs.Prelude.{ℕ, zero, suc, ◌+◌, ◌*◌, ◌/◌, ◌%◌, ◌^◌, Bool, true, false, not, List, [], ◌∷◌, length, replicate, ◌==◌, nat_eq, slice_index, slice_index_or}
-use Rattle.dshot_reply_spec.specs.Answer.{if◌then◌else◌}
+use Rattle.std.specs.Prelude.{ℕ, zero, suc, ◌+◌, ◌*◌, ◌/◌, ◌%◌, ◌^◌, Bool, true, false, not, List, [], ◌∷◌, length, replicate, ◌==◌, nat_eq, slice_index, slice_index_or, if◌then◌else◌}
 use Rattle.dshot_reply_spec.specs.Refusals.{wrong_length}
 use Rattle.dshot_reply_spec.specs.Answer as Reply
 use Rattle.dshot_reply_spec.specs.Value.{Reading, erpm, temp, volt, amp, debug, state, edt}

@@ -1,6 +1,7 @@
 -- Lists that differ only in one lane's captures may have any calls, and any window and mask of that lane. A definition of "alike" that left some of
 -- these out would not prove this.
 -- Assumes nothing.
+use Rattle.std.specs.Prelude.{if◌then◌else◌}
 use mathlib.Core.Path.{◌≡◌, ◌∙◌, refl, sym, ap}
 use Prim.Native.Nat.{ℕ, zero, suc, ◌+◌, ◌-◌, ◌*◌, ◌<◌, ◌≤◌}
 use mathlib.Core.Bool.{Bool, true, false}
@@ -10,7 +11,6 @@ use lib.ListN.{length, get_or, take, replicate, length-append, length-replicate,
 use lib.Seq.{get_or-append-add, get_or_at, take_at, drop_at}
 use borrow.Author.Tests.{le-ltb}
 use Rattle.dshot_reply_spec.specs.Refusals.{no_such_motor}
-use Rattle.dshot_reply_spec.specs.Answer.{if◌then◌else◌}
 use Rattle.dshot_bank_spec.specs.State.{Buffers}
 use Rattle.dshot_bank_spec.specs.Replies.{window}
 use Rattle.dshot_bank_spec.specs.Calls.{Call, request_telemetry_call, service_call, on_dma_interrupt, take_replies, is_faulted, reply_stats, sending, lend, State, act}

@@ -1,5 +1,6 @@
 -- No throttle outlives its lease. If a service finds the lease expired, it sends a set without throttle.
 -- Assumes nothing.
+use Rattle.std.specs.Prelude.{if◌then◌else◌}
 use mathlib.Core.Path.{◌≡◌, ◌∙◌, refl, ap}
 use mathlib.Core.Bool.{Bool, true, false, not, true≢false}
 use mathlib.Core.Option.{Option, none, some}
@@ -7,7 +8,7 @@ use mathlib.Core.List.{List, []}
 use Prim.Native.Nat.{ℕ}
 use lib.Dec.{ltb}
 use lib.ListN.{replicate}
-use Rattle.dshot_reply_spec.specs.Answer.{pick, if◌then◌else◌}
+use Rattle.dshot_reply_spec.specs.Answer.{pick}
 use Rattle.dshot_spec.specs.Lease.{lease_expired}
 use Rattle.dshot_bank_spec.specs.State.{Demand, MotorRun, Frame, Core, LaneReply, Buffers}
 use Rattle.dshot_bank_spec.specs.Lanes.{position}

@@ -2,9 +2,9 @@
 -- Stands for the calls of `DshotBank` of crates/ferrowasp-stm32-critical/src/dshot_bank.rs (Eirik2020/ferro-wasp, commit 9cb8aca1a6, Copyright (c)
 -- 2026 Kaldstrand, Apache-2.0), changed: rewritten as definitions. The looks and `take_replies` are transcribed here, the others in their own files.
 -- Assumes nothing.
-use Rattle.std.specs.Prelude.{ℕ, Bool, false, List, map, get_or}
+use Rattle.std.specs.Prelude.{ℕ, Bool, false, List, map, get_or, if◌then◌else◌}
 use Rattle.std.proofs.Math.Option.{Option, none, some}
-use Rattle.dshot_reply_spec.specs.Answer.{given, if◌then◌else◌}
+use Rattle.dshot_reply_spec.specs.Answer.{given}
 use Rattle.dshot_reply_spec.specs.Answer as Reply
 use Rattle.dshot_reply_spec.specs.Value.{Reading}
 use Rattle.dshot_spec.specs.Command.{CommandRun}

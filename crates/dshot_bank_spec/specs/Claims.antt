@@ -1,8 +1,8 @@
 -- What is claimed of every list of calls, with refused calls among them, for every number of lanes. Each list starts at a fresh bidirectional bank
 -- with two buffers of any length and contents. "Alike", "renders", "damage" and "moved edge" are document 01's terms.
 -- Assumes nothing.
-use Rattle.std.specs.Prelude.{ℕ, ◌<◌, ◌≡◌, Bool, true, false, List, map, get_or, length}
-use Rattle.dshot_reply_spec.specs.Answer.{Rejected, if◌then◌else◌}
+use Rattle.std.specs.Prelude.{ℕ, ◌<◌, ◌≡◌, Bool, true, false, List, map, get_or, length, if◌then◌else◌}
+use Rattle.dshot_reply_spec.specs.Answer.{Rejected}
 use Rattle.dshot_reply_spec.specs.Answer as Reply
 use Rattle.dshot_reply_spec.specs.Runs.{levels}
 use Rattle.dshot_reply_spec.specs.Gcr.{reply_word}

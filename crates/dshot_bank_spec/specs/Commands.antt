@@ -3,9 +3,9 @@
 -- `cancel_telemetry_request`, `take_telemetry_request_sent` and `fallback_release_due`. They are of crates/ferrowasp-stm32-critical/src/dshot_bank.rs
 -- (Eirik2020/ferro-wasp, commit 9cb8aca1a6, Copyright (c) 2026 Kaldstrand, Apache-2.0), changed: rewritten as definitions, over n lanes.
 -- Assumes nothing.
-use Rattle.std.specs.Prelude.{ℕ, Bool, true, false, not, List, ltb, leb, replicate}
+use Rattle.std.specs.Prelude.{ℕ, Bool, true, false, not, List, ltb, leb, replicate, if◌then◌else◌}
 use Rattle.std.proofs.Math.Option.{Option, none, some}
-use Rattle.dshot_reply_spec.specs.Answer.{Answer, given, refused, if◌then◌else◌}
+use Rattle.dshot_reply_spec.specs.Answer.{Answer, given, refused}
 use Rattle.dshot_reply_spec.specs.Refusals.{no_reply, throttle_out_of_range, faulted, motors_running, command_pending, telemetry_pending, replies_unsupported}
 use Rattle.dshot_spec.specs.Timing.{Timing}
 use Rattle.dshot_spec.specs.Lease.{elapsed}

@@ -3,7 +3,7 @@
 -- (c) 2026 Kaldstrand, Apache-2.0), changed: rewritten as definitions, over n lanes. Two buffers and a mark per lane stand for the source's exchanged
 -- buffers, so no spare can be missing.
 -- Assumes nothing.
-use Rattle.std.specs.Prelude.{ℕ, ◌*◌, Bool, false, List, ◌++◌, get_or, set, take, drop, replicate}
+use Rattle.std.specs.Prelude.{ℕ, ◌*◌, Bool, false, List, ◌++◌, get_or, set, take, drop, replicate, if◌then◌else◌}
 use Rattle.std.proofs.Math.Option.{Option, none, some}
 use Rattle.dshot_spec.specs.Tabulate.{tabulate}
 use Rattle.dshot_spec.specs.Timing.{Timing}
@@ -11,7 +11,6 @@ use Rattle.dshot_spec.specs.Packet.{Kind, plain, inverted, TelemetryLane, motor_
 use Rattle.dshot_spec.specs.Packet as Packet
 use Rattle.dshot_spec.specs.Sequence.{sequence_of}
 use Rattle.dshot_bank_spec.specs.Lanes.{each}
-use Rattle.dshot_reply_spec.specs.Answer.{if◌then◌else◌}
 use Rattle.dshot_bank_spec.specs.State.{Core, Buffers}
 use Rattle.dshot_bank_spec.specs.Commands.{MotorCommand, next_command_frame}
 

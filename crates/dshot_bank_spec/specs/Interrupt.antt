@@ -2,9 +2,8 @@
 -- Stands for `on_dma_interrupt` of crates/ferrowasp-stm32-critical/src/dshot_bank.rs (Eirik2020/ferro-wasp, commit 9cb8aca1a6, Copyright (c) 2026
 -- Kaldstrand, Apache-2.0), changed: rewritten as definitions, over n lanes. The hardware's answers are parameters.
 -- Assumes nothing.
-use Rattle.std.specs.Prelude.{ℕ, ◌-◌, ◌^◌, Bool, true, false, not, List, [], ◌∷◌, ◌++◌, eqb, get_or, set}
+use Rattle.std.specs.Prelude.{ℕ, ◌-◌, ◌^◌, Bool, true, false, not, List, [], ◌∷◌, ◌++◌, eqb, get_or, set, if◌then◌else◌}
 use Rattle.std.specs.Int.Bits.{bit_and, bit_or}
-use Rattle.dshot_reply_spec.specs.Answer.{if◌then◌else◌}
 use Rattle.dshot_bank_spec.specs.State.{Frame, Stats, Core}
 use Rattle.dshot_bank_spec.specs.With.{with_frames_completed, with_lane_completions, with_completion_mask, with_busy, with_receiving, with_replies_waiting, with_frame, with_stats}
 use Rattle.dshot_bank_spec.specs.Order.{Order, stop_frame, pause_and_clear, begin_receive, end_receive, latch_orders}

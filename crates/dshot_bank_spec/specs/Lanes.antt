@@ -1,9 +1,8 @@
 -- Lists over the lanes of a bank, and tests on them. The number of lanes is a parameter.
 -- `any`, `position` and `is_some` stand for the Rust's `any`, `position` and `is_some`.
 -- Assumes nothing.
-use Rattle.std.specs.Prelude.{ℕ, suc, zero, Bool, true, false, List, [], ◌∷◌}
+use Rattle.std.specs.Prelude.{ℕ, suc, zero, Bool, true, false, List, [], ◌∷◌, if◌then◌else◌}
 use Rattle.std.proofs.Math.Option.{Option, none, some}
-use Rattle.dshot_reply_spec.specs.Answer.{if◌then◌else◌}
 
 -- x after f 0, then f 1, up to f (n - 1)
 unfoldable pub each : {A : Type 0} → ℕ → (ℕ → A → A) → A → A

@@ -2,8 +2,8 @@
 -- Stands for `decode_replies` of crates/ferrowasp-stm32-critical/src/dshot_bank.rs (Eirik2020/ferro-wasp, commit 9cb8aca1a6, Copyright (c) 2026
 -- Kaldstrand, Apache-2.0), changed: rewritten as definitions, over n lanes. The windows are in one buffer.
 -- Assumes nothing.
-use Rattle.std.specs.Prelude.{ℕ, ◌+◌, ◌-◌, ◌%◌, ◌^◌, min, Bool, false, List, get_or}
-use Rattle.dshot_reply_spec.specs.Answer.{Answer, refused, is_given, if◌then◌else◌}
+use Rattle.std.specs.Prelude.{ℕ, ◌+◌, ◌-◌, ◌%◌, ◌^◌, min, Bool, false, List, get_or, if◌then◌else◌}
+use Rattle.dshot_reply_spec.specs.Answer.{Answer, refused, is_given}
 use Rattle.dshot_reply_spec.specs.Refusals.{no_reply}
 use Rattle.dshot_reply_spec.specs.Value.{Reading}
 use Rattle.dshot_reply_spec.specs.Reading.{sampled_reply}

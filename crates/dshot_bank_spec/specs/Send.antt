@@ -3,11 +3,10 @@
 -- Copyright (c) 2026 Kaldstrand, Apache-2.0), changed: rewritten as definitions, over n lanes. Two buffers and a mark per lane stand for the source's
 -- exchanged buffers, so no spare can be missing.
 -- Assumes nothing.
-use Rattle.std.specs.Prelude.{ℕ, Bool, true, false, not, List, ltb, get_or}
+use Rattle.std.specs.Prelude.{ℕ, Bool, true, false, not, List, ltb, get_or, if◌then◌else◌}
 use Rattle.std.proofs.Math.Option.{Option, none}
 use Rattle.dshot_spec.specs.Tabulate.{tabulate}
 use Rattle.dshot_bank_spec.specs.Lanes.{position, is_some}
-use Rattle.dshot_reply_spec.specs.Answer.{if◌then◌else◌}
 use Rattle.dshot_bank_spec.specs.State.{Telemetry, Stats, Core, Buffers}
 use Rattle.dshot_bank_spec.specs.With.{with_frames_started, with_dma_faults, with_spurious_interrupts, with_started_ms, with_completion_mask, with_busy, with_faulted, with_receiving, with_replies_waiting, with_in_second, with_telemetry, with_command_sequence, with_frame, with_stats}
 use Rattle.dshot_bank_spec.specs.Order.{Order, start_orders, refused_orders}

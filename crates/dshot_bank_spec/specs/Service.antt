@@ -2,10 +2,9 @@
 -- Stands for `service` of crates/ferrowasp-stm32-critical/src/dshot_bank.rs (Eirik2020/ferro-wasp, commit 9cb8aca1a6, Copyright (c) 2026 Kaldstrand,
 -- Apache-2.0), changed: rewritten as definitions, over n lanes. The hardware's answers are parameters.
 -- Assumes nothing.
-use Rattle.std.specs.Prelude.{ℕ, Bool, true, false, not, List, []}
+use Rattle.std.specs.Prelude.{ℕ, Bool, true, false, not, List, [], if◌then◌else◌}
 use Rattle.std.proofs.Math.Option.{Option, none, some}
 use Rattle.dshot_spec.specs.Lease.{lease_expired}
-use Rattle.dshot_reply_spec.specs.Answer.{if◌then◌else◌}
 use Rattle.dshot_bank_spec.specs.State.{Demand, Core, LaneReply, Bank, Buffers}
 use Rattle.dshot_bank_spec.specs.With.{with_busy_skips, with_lease_expiries, with_frame_timeouts, with_replies_waiting, with_replies_held, with_frame, with_stats}
 use Rattle.dshot_bank_spec.specs.Order.{Order, latch_orders}

@@ -2,9 +2,9 @@
 -- Stands for `DshotBank`, `DshotStats` and `DshotReplyStats` of crates/ferrowasp-stm32-critical/src/dshot_bank.rs (Eirik2020/ferro-wasp, commit
 -- 9cb8aca1a6, Copyright (c) 2026 Kaldstrand, Apache-2.0), changed: rewritten as definitions. The fields are in groups, and the lanes in lists.
 -- Assumes nothing.
-use Rattle.std.specs.Prelude.{ℕ, ◌-◌, Bool, List, eqb}
+use Rattle.std.specs.Prelude.{ℕ, ◌-◌, Bool, List, eqb, if◌then◌else◌}
 use Rattle.std.proofs.Math.Option.{Option, none, some}
-use Rattle.dshot_reply_spec.specs.Answer.{Answer, if◌then◌else◌}
+use Rattle.dshot_reply_spec.specs.Answer.{Answer}
 use Rattle.dshot_reply_spec.specs.Value.{Reading}
 use Rattle.dshot_spec.specs.Timing.{Timing}
 use Rattle.dshot_spec.specs.Command.{CommandRun}

@@ -1,7 +1,7 @@
 -- The sequences of four packets, one after the other, as the benchmark needs them.
 -- Assumes nothing.
-use Rattle.std.specs.Prelude.{ℕ, zero, suc, List, [], ◌++◌, eqb, length, get_or}
-use Rattle.dshot_reply_spec.specs.Answer.{Answer, given, refused, if◌then◌else◌}
+use Rattle.std.specs.Prelude.{ℕ, zero, suc, List, [], ◌++◌, eqb, length, get_or, if◌then◌else◌}
+use Rattle.dshot_reply_spec.specs.Answer.{Answer, given, refused}
 use Rattle.dshot_reply_spec.specs.Refusals.{wrong_length}
 use Rattle.dshot_spec.specs.Packet.{inverted, TelemetryLane, motor_packets}
 use Rattle.dshot_spec.specs.Sequence.{sequence_of}

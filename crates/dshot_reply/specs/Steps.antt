@@ -1,8 +1,8 @@
 -- What the steps of the reader and of the simulated ESC do. Only the contracts of private functions cite these; no public promise does.
 -- Assumes nothing.
-use Rattle.std.specs.Prelude.{ℕ, suc, ◌+◌, ◌-◌, ◌*◌, ◌^◌, ◌<◌, ◌≡◌, Bool, List, [], ◌∷◌, eqb, ltb, get_or}
+use Rattle.std.specs.Prelude.{ℕ, suc, ◌+◌, ◌-◌, ◌*◌, ◌^◌, ◌<◌, ◌≡◌, Bool, List, [], ◌∷◌, eqb, ltb, get_or, if◌then◌else◌}
 use Rattle.std.specs.Bool.{beq}
-use Rattle.dshot_reply_spec.specs.Answer.{Answer, given, refused, if◌then◌else◌}
+use Rattle.dshot_reply_spec.specs.Answer.{Answer, given, refused}
 use Rattle.dshot_reply_spec.specs.Refusals.{no_reply, no_mask, wrong_length}
 use Rattle.dshot_reply_spec.specs.Gcr.{symbol_of, nibble_of}
 use Rattle.dshot_reply_spec.specs.Runs.{REPLY_BITS, MIN_EDGE_BITS, MAX_REPLY_SAMPLES}

@@ -1,6 +1,7 @@
 -- How long a run lasts. Captures at 3 samples a bit that render a word in each way that document 01 allows, and what the reader's theorems say of
 -- them.
 -- Assumes nothing.
+use Rattle.std.specs.Prelude.{if◌then◌else◌}
 use mathlib.Core.Path.{◌≡◌, refl}
 use mathlib.Core.Logic.{◌↔◌}
 use mathlib.Core.Bool.{Bool, true, false}
@@ -11,7 +12,7 @@ use lib.Dec.{lit<, lit≤}
 use lib.ListN.{length, replicate}
 use Rattle.dshot_reply_spec.proofs.Inhabited.{alternating, every-damage, may-last, runs-render}
 use Rattle.dshot_reply_spec.proofs.Theorems.{damage-refused, reply-reads}
-use Rattle.dshot_reply_spec.specs.Answer.{Rejected, if◌then◌else◌}
+use Rattle.dshot_reply_spec.specs.Answer.{Rejected}
 use Rattle.dshot_reply_spec.specs.Gcr.{reply_word, symbol_at, word_of}
 use Rattle.dshot_reply_spec.specs.Reading.{sampled_reply}
 use Rattle.dshot_reply_spec.specs.Render.{Damaged, Lasts, Renders}

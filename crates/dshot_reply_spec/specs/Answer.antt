@@ -1,6 +1,6 @@
 -- What a call answers: what it was asked for, or the number of its refusal in document 01, and nothing else.
 -- Assumes nothing.
-use Rattle.std.specs.Prelude.{ℕ, ◌≤◌, ◌≡◌, Bool, true, false, List}
+use Rattle.std.specs.Prelude.{ℕ, ◌≤◌, ◌≡◌, Bool, true, false, List, if◌then◌else◌}
 
 pub data Answer (A : Type 0) : Type 0 where
   given : A → Answer A
@@ -11,15 +11,9 @@ abbrev pub and_then : {A B : Type 0} → Answer A → (A → Answer B) → Answe
 and_then (given a) next = next a
 and_then (refused n) next = refused n
 
--- a, if the test holds; else b
+-- a, if the test holds; else b: the library's if, as a function
 abbrev pub pick : {A : Type 0} → Bool → A → A → A
-pick true a b = a
-pick false a b = b
-
--- the same in Rust's notation
-infix 1 if◌then◌else◌
-abbrev pub if◌then◌else◌ : {A : Type 0} → Bool → A → A → A
-if◌then◌else◌ b x y = pick b x y
+pick b x y = if b then x else y
 
 -- whether something was given, as Rust's `is_ok`
 abbrev pub is_given : {A : Type 0} → Answer A → Bool

@@ -1,9 +1,9 @@
 -- A bidirectional DShot reply as Betaflight's DShot documentation describes it, bit by bit as it goes over the wire. It is written from what is known
 -- of that documentation, not from the code. The documentation's text was not at hand (docs/DIFFERENCES.md).
 -- Assumes nothing.
-use Rattle.std.specs.Prelude.{ℕ, ◌+◌, ◌-◌, ◌*◌, ◌/◌, ◌%◌, ◌^◌, Bool, false, not, List, [], ◌∷◌, ◌++◌, eqb, get_or, replicate}
+use Rattle.std.specs.Prelude.{ℕ, ◌+◌, ◌-◌, ◌*◌, ◌/◌, ◌%◌, ◌^◌, Bool, false, not, List, [], ◌∷◌, ◌++◌, eqb, get_or, replicate, if◌then◌else◌}
 use Rattle.std.specs.Int.Bits.{bit_xor}
-use Rattle.dshot_reply_spec.specs.Answer.{Answer, given, refused, if◌then◌else◌}
+use Rattle.dshot_reply_spec.specs.Answer.{Answer, given, refused}
 use Rattle.dshot_reply_spec.specs.Refusals.{zero_period}
 use Rattle.dshot_reply_spec.specs.Value.{Reading, erpm}
 

@@ -1,8 +1,8 @@
 -- A value as the Extended DShot Telemetry (EDT) specification reads it. It is written from what is known of the specification, not from the code. The
 -- specification's text was not at hand (docs/DIFFERENCES.md).
 -- Assumes nothing.
-use Rattle.std.specs.Prelude.{ℕ, ◌/◌, ◌%◌, Bool, true, false, eqb}
-use Rattle.dshot_reply_spec.specs.Answer.{Answer, given, if◌then◌else◌}
+use Rattle.std.specs.Prelude.{ℕ, ◌/◌, ◌%◌, Bool, true, false, eqb, if◌then◌else◌}
+use Rattle.dshot_reply_spec.specs.Answer.{Answer, given}
 use Rattle.dshot_reply_spec.specs.Value.{Reading, temp, volt, amp, debug, state, edt}
 use Rattle.dshot_reply_spec.specs.Betaflight.{speed}
 

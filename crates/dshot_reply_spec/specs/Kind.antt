@@ -1,7 +1,6 @@
 -- The kind of a reading as a number, and the number that the reading carries. They are the last two fields of the bench's line in document 01.
 -- Assumes nothing.
-use Rattle.std.specs.Prelude.{ℕ, eqb}
-use Rattle.dshot_reply_spec.specs.Answer.{if◌then◌else◌}
+use Rattle.std.specs.Prelude.{ℕ, eqb, if◌then◌else◌}
 use Rattle.dshot_reply_spec.specs.Value.{Reading, erpm, temp, volt, amp, debug, state, edt}
 
 -- The kinds of the debug channels 1 to 3. Another channel gets 9, which is no kind. No reading of the library has such a channel.

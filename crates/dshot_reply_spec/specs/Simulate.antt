@@ -1,7 +1,7 @@
 -- The simulated ESC, which document 01 adds: the levels and samples of a capture of a word, at s samples a bit.
 -- Assumes nothing.
-use Rattle.std.specs.Prelude.{ℕ, zero, suc, ◌+◌, ◌-◌, ◌*◌, Bool, true, not, List, [], ◌++◌, map, eqb, ltb, length, replicate}
-use Rattle.dshot_reply_spec.specs.Answer.{Answer, given, refused, if◌then◌else◌}
+use Rattle.std.specs.Prelude.{ℕ, zero, suc, ◌+◌, ◌-◌, ◌*◌, Bool, true, not, List, [], ◌++◌, map, eqb, ltb, length, replicate, if◌then◌else◌}
+use Rattle.dshot_reply_spec.specs.Answer.{Answer, given, refused}
 use Rattle.dshot_reply_spec.specs.Refusals.{no_mask, wrong_length}
 use Rattle.dshot_reply_spec.specs.Gcr.{reply_word}
 use Rattle.dshot_reply_spec.specs.Move.{bit}

@@ -2,8 +2,8 @@
 -- Stands for the period inside `DshotReply::from_value` of crates/ferrowasp-output/src/dshot_reply.rs (Eirik2020/ferro-wasp, commit
 -- 9cb8aca1a6, Copyright (c) 2026 Kaldstrand, Apache-2.0), which follows Betaflight's `drivers/dshot.c`.
 -- Assumes nothing.
-use Rattle.std.specs.Prelude.{ℕ, ◌+◌, ◌*◌, ◌/◌, ◌%◌, ◌≤◌, ◌<◌, ◌≡◌, eqb}
-use Rattle.dshot_reply_spec.specs.Answer.{Answer, given, refused, and_then, if◌then◌else◌}
+use Rattle.std.specs.Prelude.{ℕ, ◌+◌, ◌*◌, ◌/◌, ◌%◌, ◌≤◌, ◌<◌, ◌≡◌, eqb, if◌then◌else◌}
+use Rattle.dshot_reply_spec.specs.Answer.{Answer, given, refused, and_then}
 use Rattle.dshot_reply_spec.specs.Refusals.{zero_period}
 use Rattle.dshot_reply_spec.specs.Nearest.{nearest}
 use Rattle.dshot_reply_spec.specs.Value.{Reading, erpm, period_of, step_of}

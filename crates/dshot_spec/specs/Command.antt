@@ -2,8 +2,7 @@
 -- Stands for `DshotCommandSequence` of crates/ferrowasp-output/src/dshot.rs (Eirik2020/ferro-wasp, commit 9cb8aca1a6, Copyright (c) 2026 Kaldstrand,
 -- Apache-2.0), changed: rewritten as definitions. They hold for any list of commands and 1 to 255 repeats.
 -- Assumes nothing.
-use Rattle.std.specs.Prelude.{ℕ, zero, suc, ◌+◌, ◌%◌, Bool, List, [], ◌∷◌, ◌++◌, length, replicate, ◌==◌, nat_lt, slice_index}
-use Rattle.dshot_reply_spec.specs.Answer.{if◌then◌else◌}
+use Rattle.std.specs.Prelude.{ℕ, zero, suc, ◌+◌, ◌%◌, Bool, List, [], ◌∷◌, ◌++◌, length, replicate, ◌==◌, nat_lt, slice_index, if◌then◌else◌}
 
 -- a run: its commands, which of them is next, and how often that one is still to be sent
 pub record CommandRun : Type 0 where

@@ -2,8 +2,8 @@
 -- Stands for `DshotPacket` and `four_motor_packets` with its bidirectional form, of crates/ferrowasp-output/src/dshot.rs (Eirik2020/ferro-wasp,
 -- commit 9cb8aca1a6, Copyright (c) 2026 Kaldstrand, Apache-2.0), changed: rewritten as definitions. Document 01 adds the reader.
 -- Assumes nothing.
-use Rattle.std.specs.Prelude.{ℕ, ◌+◌, ◌*◌, ◌/◌, ◌%◌, Bool, true, false, List, ◌==◌, bit_xor, nat_lt, slice_index}
-use Rattle.dshot_reply_spec.specs.Answer.{Answer, given, refused, if◌then◌else◌}
+use Rattle.std.specs.Prelude.{ℕ, ◌+◌, ◌*◌, ◌/◌, ◌%◌, Bool, true, false, List, ◌==◌, bit_xor, nat_lt, slice_index, if◌then◌else◌}
+use Rattle.dshot_reply_spec.specs.Answer.{Answer, given, refused}
 use Rattle.dshot_reply_spec.specs.Refusals.{value_out_of_range, wrong_packet_checksum}
 use Rattle.dshot_spec.specs.Tabulate.{tabulate}
 

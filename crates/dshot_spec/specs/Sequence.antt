@@ -3,8 +3,8 @@
 -- Copyright (c) 2026 Kaldstrand, Apache-2.0), changed: rewritten as definitions. Document 01 adds the reader and the refusal of a buffer of another
 -- length.
 -- Assumes nothing.
-use Rattle.std.specs.Prelude.{ℕ, ◌+◌, ◌-◌, ◌*◌, ◌/◌, Bool, List, [], ◌∷◌, length, take, ◌==◌, nat_eq, nat_lt, slice_index}
-use Rattle.dshot_reply_spec.specs.Answer.{Answer, given, refused, and_then, if◌then◌else◌}
+use Rattle.std.specs.Prelude.{ℕ, ◌+◌, ◌-◌, ◌*◌, ◌/◌, Bool, List, [], ◌∷◌, length, take, ◌==◌, nat_eq, nat_lt, slice_index, if◌then◌else◌}
+use Rattle.dshot_reply_spec.specs.Answer.{Answer, given, refused, and_then}
 use Rattle.dshot_reply_spec.specs.Refusals.{wrong_length, wrong_duty}
 use Rattle.dshot_reply_spec.specs.Move.{bit}
 use Rattle.dshot_spec.specs.Packet.{Frame, read_packet}

@@ -2,8 +2,7 @@
 -- Stands for `throttle_to_dshot` and `throttles_to_dshot` of crates/ferrowasp-output/src/dshot.rs (Eirik2020/ferro-wasp, commit 9cb8aca1a6, Copyright
 -- (c) 2026 Kaldstrand, Apache-2.0), changed: rewritten as definitions.
 -- Assumes nothing.
-use Rattle.std.specs.Prelude.{ℕ, ◌+◌, ◌*◌, ◌/◌, min, List, ◌==◌, slice_index}
-use Rattle.dshot_reply_spec.specs.Answer.{if◌then◌else◌}
+use Rattle.std.specs.Prelude.{ℕ, ◌+◌, ◌*◌, ◌/◌, min, List, ◌==◌, slice_index, if◌then◌else◌}
 use Rattle.dshot_spec.specs.Tabulate.{tabulate}
 
 -- A throttle of 0 has the value 0, a stop. Any other throttle has a value of 48 to 2047.

@@ -1,10 +1,11 @@
 -- The declared name decides alone which variable is read: other variables, scopes, timescales and places change nothing. Indices.antt says it of indices.
 -- Assumes nothing.
+use Rattle.std.specs.Prelude.{if◌then◌else◌}
 use mathlib.Core.Path.{◌≡◌, refl, sym, ap, ◌∙◌}
 use mathlib.Core.Bool.{Bool, true, false}
 use mathlib.Core.List.{List, ◌∷◌}
 use Prim.Native.Nat.{ℕ}
-use Rattle.dshot_reply_spec.specs.Answer.{pick, if◌then◌else◌}
+use Rattle.dshot_reply_spec.specs.Answer.{pick}
 use Rattle.dump_spec.specs.Words.{Word, Placed, one_of, is_end, is_name}
 use Rattle.dump_spec.specs.Kinds as K
 use Rattle.dump_spec.specs.Kinds.{scope_types, kind_of}

@@ -1,5 +1,6 @@
 -- Words that are skipped change nothing: the text of a section, a vector or a real with its code, and a change of another code.
 -- Assumes nothing.
+use Rattle.std.specs.Prelude.{if◌then◌else◌}
 use mathlib.Core.Path.{◌≡◌, refl, ap, ◌∙◌}
 use mathlib.Core.Logic.{◌⊎◌, inl, inr, ⊎_elim}
 use mathlib.Core.Bool.{Bool, true, false}
@@ -7,7 +8,7 @@ use mathlib.Core.List.{List, [], ◌∷◌, ◌++◌}
 use Prim.Native.Nat.{ℕ}
 use native.Mathlib.Omega.{arith}
 use lib.Dec.{ltb}
-use Rattle.dshot_reply_spec.specs.Answer.{pick, if◌then◌else◌}
+use Rattle.dshot_reply_spec.specs.Answer.{pick}
 use Rattle.dump_spec.specs.Causes.{time_before}
 use Rattle.dump_spec.specs.Words.{Word, Placed, same, end_word, is_end, is_name}
 use Rattle.dump_spec.specs.Kinds as K

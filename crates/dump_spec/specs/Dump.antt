@@ -1,7 +1,7 @@
 -- What the calls on dumps owe (document 02, W-203): from the bytes of a text and the arguments to samples, place, timescale and variables.
 -- Assumes nothing.
-use Rattle.std.specs.Prelude.{ℕ, ◌^◌, List, ◌++◌, eqb, leb, ltb, length, drop}
-use Rattle.dshot_reply_spec.specs.Answer.{Answer, given, refused, if◌then◌else◌}
+use Rattle.std.specs.Prelude.{ℕ, ◌^◌, List, ◌++◌, eqb, leb, ltb, length, drop, if◌then◌else◌}
+use Rattle.dshot_reply_spec.specs.Answer.{Answer, given, refused}
 use Rattle.dshot_reply_spec.specs.Refusals.{broken_dump, wrong_length}
 use Rattle.dump_spec.specs.Causes.{refusal_of, no_place, offset_out, period_out, count_out, no_level_at}
 use Rattle.dump_spec.specs.Words.{Word, words_from}

@@ -1,8 +1,8 @@
 -- The syntax of a dump as a relation between its words and its declarations, times and changes (IEEE 1364 clause 18, with the open points as
 -- docs/DECISIONS.md decides them). `walk-is-grammar` proves that the walk accepts just what has a derivation here, with the same contents.
 -- Assumes nothing.
-use Rattle.std.specs.Prelude.{ℕ, ◌≤◌, ◌<◌, ◌≡◌, true, false, List, [], ◌∷◌}
-use Rattle.dshot_reply_spec.specs.Answer.{given, if◌then◌else◌}
+use Rattle.std.specs.Prelude.{ℕ, ◌≤◌, ◌<◌, ◌≡◌, true, false, List, [], ◌∷◌, if◌then◌else◌}
+use Rattle.dshot_reply_spec.specs.Answer.{given}
 use Rattle.dump_spec.specs.Words.{Word, Placed, same, one_of, is_code, is_end, is_name}
 use Rattle.dump_spec.specs.Numbers.{is_number, value_from, time_limit, number_of, is_real}
 use Rattle.dump_spec.specs.Names.{Part, index_word, is_wrong, is_outside, reference}

@@ -1,8 +1,8 @@
 -- What a word of a dump is by itself, wherever it stands (IEEE 1364 clause 18).
 -- Assumes nothing.
-use Rattle.std.specs.Prelude.{ℕ, zero, suc, ◌*◌, ◌^◌, Bool, true, false, List, [], ◌∷◌, map, eqb, ltb}
+use Rattle.std.specs.Prelude.{ℕ, zero, suc, ◌*◌, ◌^◌, Bool, true, false, List, [], ◌∷◌, map, eqb, ltb, if◌then◌else◌}
 use Prim.Native.String.{String}
-use Rattle.dshot_reply_spec.specs.Answer.{Answer, given, refused, if◌then◌else◌}
+use Rattle.dshot_reply_spec.specs.Answer.{Answer, given, refused}
 use Rattle.dshot_reply_spec.specs.Ascii.{ascii}
 use Rattle.dump_spec.specs.Causes.{unknown_keyword, wrong_time, wrong_scalar, wrong_vector, wrong_real, unknown_word}
 use Rattle.dump_spec.specs.Words.{Word, same, some, all, is_code}

@@ -1,7 +1,6 @@
 -- The level of a signal at a time, over the list of its changes, and samples of it (document 02). Nothing here knows how a text is read.
 -- Assumes nothing.
-use Rattle.std.specs.Prelude.{ℕ, zero, suc, ◌+◌, List, [], ◌∷◌, leb, ltb}
-use Rattle.dshot_reply_spec.specs.Answer.{if◌then◌else◌}
+use Rattle.std.specs.Prelude.{ℕ, zero, suc, ◌+◌, List, [], ◌∷◌, leb, ltb, if◌then◌else◌}
 use Rattle.dump_spec.specs.Signal.{Change}
 
 -- the level of the last change at or before t; l, if there is none

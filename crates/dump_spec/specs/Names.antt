@@ -1,7 +1,6 @@
 -- The name of a variable without its index (document 02: "without scopes or index"). An index stands in brackets behind the name, glued or apart.
 -- Assumes nothing.
-use Rattle.std.specs.Prelude.{ℕ, ◌+◌, Bool, true, false, [], ◌∷◌, eqb, length, take, drop}
-use Rattle.dshot_reply_spec.specs.Answer.{if◌then◌else◌}
+use Rattle.std.specs.Prelude.{ℕ, ◌+◌, Bool, true, false, [], ◌∷◌, eqb, length, take, drop, if◌then◌else◌}
 use Rattle.dump_spec.specs.Words.{Word, some}
 use Rattle.dump_spec.specs.Numbers.{is_digit}
 

@@ -1,7 +1,7 @@
 -- Numbers in a dump: decimals, of any number of digits, and reals as printf writes them with %.16g.
 -- Assumes nothing.
-use Rattle.std.specs.Prelude.{ℕ, ◌+◌, ◌-◌, ◌*◌, ◌^◌, Bool, true, false, [], ◌∷◌, map, eqb, leb, ltb}
-use Rattle.dshot_reply_spec.specs.Answer.{Answer, given, refused, if◌then◌else◌}
+use Rattle.std.specs.Prelude.{ℕ, ◌+◌, ◌-◌, ◌*◌, ◌^◌, Bool, true, false, [], ◌∷◌, map, eqb, leb, ltb, if◌then◌else◌}
+use Rattle.dshot_reply_spec.specs.Answer.{Answer, given, refused}
 use Rattle.dshot_reply_spec.specs.Ascii.{ascii}
 use Rattle.dshot_reply_spec.specs.Refusals.{broken_dump}
 use Rattle.dump_spec.specs.Words.{Word, some, all, one_of}

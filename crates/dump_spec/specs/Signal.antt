@@ -1,7 +1,6 @@
 -- The changes of one signal in a dump, by its name: document 02's 25 at `$enddefinitions` and its 26 at a time, in reading order with the syntax.
 -- Assumes nothing.
-use Rattle.std.specs.Prelude.{ℕ, Bool, false, List, [], ◌∷◌, eqb, ltb}
-use Rattle.dshot_reply_spec.specs.Answer.{if◌then◌else◌}
+use Rattle.std.specs.Prelude.{ℕ, Bool, false, List, [], ◌∷◌, eqb, ltb, if◌then◌else◌}
 use Rattle.dump_spec.specs.Causes.{never_declared, declared_twice, time_before}
 use Rattle.dump_spec.specs.Words.{Word, same}
 use Rattle.dump_spec.specs.Walk as W

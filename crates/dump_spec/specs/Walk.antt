@@ -1,8 +1,8 @@
 -- The syntax of a dump as a walk over its words in reading order (IEEE 1364 clause 18, with the open points as docs/DECISIONS.md decides them).
 -- The walk gives what the text declares, its times and its changes, and says where and why the text breaks the syntax.
 -- Assumes nothing.
-use Rattle.std.specs.Prelude.{ℕ, ◌+◌, Bool, List, [], ◌∷◌, eqb, length}
-use Rattle.dshot_reply_spec.specs.Answer.{Answer, given, refused, if◌then◌else◌}
+use Rattle.std.specs.Prelude.{ℕ, ◌+◌, Bool, List, [], ◌∷◌, eqb, length, if◌then◌else◌}
+use Rattle.dshot_reply_spec.specs.Answer.{Answer, given, refused}
 use Rattle.dump_spec.specs.Causes.{text_ends, unknown_keyword, not_adeclaration, end_missing, wrong_timescale, wrong_scope_type, wrong_scope_name, wrong_var_type}
 use Rattle.dump_spec.specs.Causes.{wrong_size, wrong_var_code, wrong_var_name, wrong_index, late_declaration, not_achange, wrong_code}
 use Rattle.dump_spec.specs.Words.{Word, Placed, one_of, is_end, is_name}

@@ -1,7 +1,6 @@
 -- A text as words. Blanks, tabs, line feeds, form feeds and carriage returns stand between them (IEEE 1364 clause 18, and CR for files of Windows).
 -- Assumes nothing.
-use Rattle.std.specs.Prelude.{ℕ, ◌+◌, Bool, true, false, List, [], ◌∷◌, ◌++◌, eqb, leb, ltb, length}
-use Rattle.dshot_reply_spec.specs.Answer.{if◌then◌else◌}
+use Rattle.std.specs.Prelude.{ℕ, ◌+◌, Bool, true, false, List, [], ◌∷◌, ◌++◌, eqb, leb, ltb, length, if◌then◌else◌}
 use Rattle.dshot_reply_spec.specs.Ascii.{ascii}
 
 abbrev pub Word : Type 0

@@ -1,5 +1,6 @@
 -- Samples of the changes that are written for some levels are those levels.
 -- Assumes nothing.
+use Rattle.std.specs.Prelude.{if◌then◌else◌}
 use mathlib.Core.Path.{◌≡◌, refl, sym, ap, ◌∙◌}
 use mathlib.Core.Logic.{⊎_elim}
 use mathlib.Core.List.{List, [], ◌∷◌}
@@ -9,7 +10,6 @@ use lib.Dec.{eqb}
 use lib.ListN.{length}
 use borrow.Author.Tests.{eq-eqb, ne_eqb, le-leb, lt-leb, lt-ltb}
 use Rattle.dshot_reply_spec.proofs.Cases.{equal_or_not}
-use Rattle.dshot_reply_spec.specs.Answer.{if◌then◌else◌}
 use Rattle.capture_file.specs.File.{UpTo}
 use Rattle.dump_spec.specs.Signal.{Change, changed}
 use Rattle.dump_spec.specs.Levels.{level_at, samples_from, first_without}

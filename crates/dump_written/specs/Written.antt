@@ -1,7 +1,6 @@
 -- A writer of plain dumps: the text for one signal whose level is sampled a period apart. Theorems say that the text reads back as those levels.
 -- Assumes nothing.
-use Rattle.std.specs.Prelude.{ℕ, ◌+◌, ◌^◌, ◌≤◌, ◌<◌, ◌≡◌, Bool, true, false, List, [], ◌∷◌, ◌++◌, eqb, length}
-use Rattle.dshot_reply_spec.specs.Answer.{if◌then◌else◌}
+use Rattle.std.specs.Prelude.{ℕ, ◌+◌, ◌^◌, ◌≤◌, ◌<◌, ◌≡◌, Bool, true, false, List, [], ◌∷◌, ◌++◌, eqb, length, if◌then◌else◌}
 use Rattle.dshot_reply_spec.specs.Ascii.{ascii}
 use Rattle.capture_file.specs.File.{UpTo}
 use Rattle.capture_file.specs.Line.{digit, decimal_within, spaced}

@@ -1,7 +1,7 @@
 -- How a timing, a command run, a command and a frame lie in slots. Added: document 01 asks for calls from C.
 -- Assumes nothing.
-use Rattle.std.specs.Prelude.{ℕ, List, [], ◌∷◌, ltb, get_or}
-use Rattle.dshot_reply_spec.specs.Answer.{Answer, refused, if◌then◌else◌}
+use Rattle.std.specs.Prelude.{ℕ, List, [], ◌∷◌, ltb, get_or, if◌then◌else◌}
+use Rattle.dshot_reply_spec.specs.Answer.{Answer, refused}
 use Rattle.dshot_reply_spec.specs.Refusals.{wrong_packet_checksum}
 use Rattle.dshot_spec.specs.Packet.{Kind, plain, inverted, Frame, flag, read_packet}
 use Rattle.dshot_spec.specs.Timing.{Timing}

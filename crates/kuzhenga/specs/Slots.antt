@@ -1,7 +1,7 @@
 -- How an exported call puts an answer into the slots that it is lent. Added: document 01 asks for calls from C.
 -- Assumes nothing.
-use Rattle.std.specs.Prelude.{ℕ, ◌/◌, ◌%◌, List, [], ◌∷◌, eqb, length}
-use Rattle.dshot_reply_spec.specs.Answer.{Answer, refused, if◌then◌else◌}
+use Rattle.std.specs.Prelude.{ℕ, ◌/◌, ◌%◌, List, [], ◌∷◌, eqb, length, if◌then◌else◌}
+use Rattle.dshot_reply_spec.specs.Answer.{Answer, refused}
 use Rattle.dshot_reply_spec.specs.Refusals.{wrong_length}
 use Rattle.dshot_reply_spec.specs.Kind.{kind_number, reading_number}
 use Rattle.dshot_reply_spec.specs.Value.{Reading}

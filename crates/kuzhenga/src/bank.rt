@@ -2,8 +2,7 @@
 //
 // A bank takes 97 slots. Only the library decides what they hold.
 
-ghost use Rattle.std.specs.Prelude.{◌≡◌, true, false, not, eqb};
-ghost use Rattle.dshot_reply_spec.specs.Answer.{if◌then◌else◌};
+ghost use Rattle.std.specs.Prelude.{◌≡◌, true, false, not, eqb, if◌then◌else◌};
 ghost use Rattle.dshot_reply_spec.specs.Refusals.{wrong_length};
 ghost use Rattle.dshot_spec.specs.Packet.{flag};
 ghost use Rattle.dshot_bank_spec.specs.State.{Buffers};

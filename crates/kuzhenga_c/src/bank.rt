@@ -1,7 +1,6 @@
 // The calls of crates/kuzhenga/src/bank.rt.
 
-ghost use Rattle.std.specs.Prelude.{◌≡◌, true, false, not, eqb};
-ghost use Rattle.dshot_reply_spec.specs.Answer.{if◌then◌else◌};
+ghost use Rattle.std.specs.Prelude.{◌≡◌, true, false, not, eqb, if◌then◌else◌};
 ghost use Rattle.dshot_reply_spec.specs.Refusals.{wrong_length};
 ghost use Rattle.dshot_spec.specs.Packet.{flag};
 ghost use Rattle.dshot_bank_spec.specs.State.{Buffers};

@@ -1,9 +1,9 @@
 -- `dshot_bank::DshotBank::take_replies` meets its contract: if replies are held, what was decoded of each lane. None are held after it.
 -- Assumes nothing.
+use Rattle.std.specs.Prelude.{if◌then◌else◌}
 use Rattle.std.proofs.Common.{◌≡◌, ℕ, Bool, true, false, arith}
 use mathlib.Core.Option.{some, none}
 use borrow.Author.Tests.{not-true, not-false}
-use Rattle.dshot_reply_spec.specs.Answer.{if◌then◌else◌}
 use Rattle.dshot_bank_spec.specs.Calls.{replied, replies_taken}
 use Rattle.dshot_bank_spec.specs.Steps.{port_refusal, step}
 use Rattle.dshot_bank.specs.States.{core_of, replies_of}
