@@ -8,8 +8,8 @@ ghost use Rattle.std.specs.Prelude.{◌≡◌, ℕ, ◌+◌, ◌*◌, ◌<◌, B
 ghost use Rattle.dshot_bank_spec.specs.State.{Core, Buffers};
 ghost use Rattle.dshot_bank_spec.specs.Order.{begin_receive, end_receive};
 ghost use Rattle.dshot_bank_spec.specs.Interrupt as Spec;
-ghost use Rattle.dshot_bank_spec.specs.Interrupt.{completion_bit, lane_done, frame_done, window_opened, window_closed, opens_window, afterLane};
-ghost use Rattle.dshot_bank_spec.specs.Calls.{on_dma_interrupt};
+ghost use Rattle.dshot_bank_spec.specs.Interrupt.{completion_bit, lane_done, frame_done, window_opened, window_closed, opens_window, after_lane};
+ghost use Rattle.dshot_bank_spec.specs.Calls.{on_dma_interrupt_call};
 ghost use Rattle.bank_slots_spec.specs.Places.{slots};
 ghost use Rattle.bank_slots_spec.specs.Load.{load};
 ghost use Rattle.bank_slots_spec.specs.Moves.{Moves, on_core};
@@ -180,7 +180,7 @@ fn latched_turning(state: &mut [u16], lane: usize, order: u16, out: &mut [u16])
 // A lane has completed. After the last lane of a transmission, the receive window opens or the set is done. After the last window, the set is done.
 fn after_lane(state: &mut [u16], lane: usize, turned: bool, turned_back: bool, out: &mut [u16])
     requires { (length state.old ≡ slots) × (length out.old ≡ 9) × (lane < 4) }
-    ensures { Handles (afterLane 4 lane true false turned turned_back) state.old state.new out.new }
+    ensures { Handles (after_lane 4 lane true false turned turned_back) state.old state.new out.new }
 {
     if word_at(state, COMPLETION_MASK) != ALL_MOTORS_COMPLETE {
         tell_paused(out, COMPLETED, lane);
@@ -218,7 +218,7 @@ fn handle(
     out: &mut [u16],
 )
     requires { (length state.old ≡ slots) × (length out.old ≡ 9) × (lane < 4) }
-    ensures { Handles (Spec.onDmaInterrupt 4 lane transfer_complete dma_error turned turned_back) state.old state.new out.new }
+    ensures { Handles (Spec.on_dma_interrupt 4 lane transfer_complete dma_error turned turned_back) state.old state.new out.new }
 {
     if flag(state[FAULTED]) {
         tell_paused(out, INTERRUPT_FAULT, lane);
@@ -255,8 +255,8 @@ pub fn on_dma_interrupt(
     turned_back: bool,
     out: &mut [u16],
 ) -> u32
-    ensures called { (b : Buffers) → Called (fit bank.old (sized 9 out.old)) (on_dma_interrupt motor transfer_complete dma_error turned turned_back) b bank.old bank.new result }
-    ensures out_after { (b : Buffers) → out.new ≡ out_after (answer_of (fit bank.old (sized 9 out.old)) (state_at bank.old b) (on_dma_interrupt motor transfer_complete dma_error turned turned_back)) out.old }
+    ensures called { (b : Buffers) → Called (fit bank.old (sized 9 out.old)) (on_dma_interrupt_call motor transfer_complete dma_error turned turned_back) b bank.old bank.new result }
+    ensures out_after { (b : Buffers) → out.new ≡ out_after (answer_of (fit bank.old (sized 9 out.old)) (state_at bank.old b) (on_dma_interrupt_call motor transfer_complete dma_error turned turned_back)) out.old }
 {
     if bank.len() != SLOTS {
         return WRONG_LENGTH;

@@ -23,7 +23,7 @@ use Rattle.dshot_bank_spec.proofs.LaneLaws.{on, off}
 use Rattle.bank_slots_spec.specs.Memory.{Row, ◌holds◌, at, write, long_rows}
 use Rattle.bank_slots_spec.specs.Memory as Memory
 use Rattle.bank_slots_spec.specs.Places.{slots, TIMING, VALUES, LEASE_STARTED, LEASE_OVER, REQUEST, BIDIRECTIONAL, REPLIES}
-use Rattle.bank_slots_spec.specs.Load.{choice, REFUSED, four, timing_at, bankAt, load}
+use Rattle.bank_slots_spec.specs.Load.{choice, REFUSED, four, timing_at, bank_at, load}
 use Rattle.bank_slots_spec.specs.Store.{value_rows, store}
 use Rattle.bank_slots_spec.specs.Moves.{Moves, on_core}
 use Rattle.bank_slots_spec.specs.Outs.{motor_slots}
@@ -62,7 +62,7 @@ module _ (xs : List ℕ) (n : length xs ≡ slots) where
       → Moves (on_core (λ (c : Core). with_telemetry (record { request = some motor; request_sent = c.telemetry.request_sent }) c)) xs (write ((REQUEST holds motor + 1) ∷ []) xs)
   requested motor h =
       moves-write ((REQUEST holds motor + 1) ∷ []) xs n refl
-      (ap (λ (o : Option ℕ). on_core (λ (c : Core). with_telemetry (record { request = o; request_sent = c.telemetry.request_sent }) c) (bankAt (at xs))) (choice-back (some motor) h))
+      (ap (λ (o : Option ℕ). on_core (λ (c : Core). with_telemetry (record { request = o; request_sent = c.telemetry.request_sent }) c) (bank_at (at xs))) (choice-back (some motor) h))
       (λ w. (w.0, (w.1.0, ((choice-written (some motor) h, w.1.1.0.1, w.1.1.0.2), w.1.1.1))))
 
   -- a demand and its lease
@@ -71,7 +71,7 @@ module _ (xs : List ℕ) (n : length xs ≡ slots) where
   unfolding throttle_values tabulate
   demand-set commands now d h k =
       moves-write (value_rows (throttle_values 4 (four (at commands))) ++ (long_rows LEASE_STARTED now ++ long_rows LEASE_OVER (d + 1))) xs n refl
-      (λ j. on_core (with_demand (record { requested_values = throttle_values 4 commands; lease_started_ms = long-back now h j; lease_duration_ms = lease-back (some d) k j })) (bankAt (at xs)))
+      (λ j. on_core (with_demand (record { requested_values = throttle_values 4 commands; lease_started_ms = long-back now h j; lease_duration_ms = lease-back (some d) k j })) (bank_at (at xs)))
       (λ w. w)
 
 -- writing leaves a length, once and twice

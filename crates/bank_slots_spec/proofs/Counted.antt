@@ -12,7 +12,7 @@ use Rattle.dshot_bank_spec.specs.Replies.{wrapping_add}
 use Rattle.dshot_bank_spec.specs.Interrupt.{count_completion}
 use Rattle.bank_slots_spec.specs.Memory.{Row, at, write, over, within, word, word_rows}
 use Rattle.bank_slots_spec.specs.Places.{slots, LANE_COMPLETIONS}
-use Rattle.bank_slots_spec.specs.Load.{bankAt}
+use Rattle.bank_slots_spec.specs.Load.{bank_at}
 use Rattle.bank_slots_spec.specs.Written.{WrittenAt}
 use Rattle.bank_slots_spec.specs.Moves.{on_core, Moves}
 use Rattle.bank_slots_spec.proofs.MemoryLaws.{word_back}
@@ -32,11 +32,11 @@ module _ (xs : List ℕ) where
 
   -- a lane for which everything except the two halves of the count computes
   known : (lane : ℕ) → length xs ≡ slots → within (rows lane) slots ≡ true
-      → bankAt (over (rows lane) (at xs)) ≡ counted lane (count lane / 65536 * 65536 + count lane % 65536) (bankAt (at xs))
-      → counted lane (count lane) (bankAt (at xs)) ≡ on_core (λ (c : Core). with_stats (count_completion lane c.stats) c) (bankAt (at xs))
+      → bank_at (over (rows lane) (at xs)) ≡ counted lane (count lane / 65536 * 65536 + count lane % 65536) (bank_at (at xs))
+      → counted lane (count lane) (bank_at (at xs)) ≡ on_core (λ (c : Core). with_stats (count_completion lane c.stats) c) (bank_at (at xs))
       → (WrittenAt (at xs) → WrittenAt (over (rows lane) (at xs)))
       → Moves (on_core (λ (c : Core). with_stats (count_completion lane c.stats) c)) xs (write (rows lane) xs)
-  known lane n h e f w = moves-write (rows lane) xs n h (e ∙ (λ j. counted lane (word_back (count lane) j) (bankAt (at xs))) ∙ f) w
+  known lane n h e f w = moves-write (rows lane) xs n h (e ∙ (λ j. counted lane (word_back (count lane) j) (bank_at (at xs))) ∙ f) w
 
   pub lane-counted : (lane : ℕ) → length xs ≡ slots → lane < 4
       → Moves (on_core (λ (c : Core). with_stats (count_completion lane c.stats) c)) xs (write (word_rows (LANE_COMPLETIONS + 2 * lane) (wrapping_add (word (LANE_COMPLETIONS + 2 * lane) (at xs)))) xs)

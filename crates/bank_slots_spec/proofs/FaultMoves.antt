@@ -16,7 +16,7 @@ use Rattle.dshot_bank_spec.specs.Commands.{command_stop, clear_request_sent, can
 use Rattle.dshot_bank_spec.specs.Send.{count_fault, latch_fault}
 use Rattle.bank_slots_spec.specs.Memory.{Row, ◌holds◌, at, write, word, word_rows}
 use Rattle.bank_slots_spec.specs.Places.{slots, VALUES, LEASE_OVER, REQUEST, REQUEST_SENT, RUN, BUSY, FAULTED, RECEIVING, REPLIES_WAITING, DMA_FAULTS, SPURIOUS}
-use Rattle.bank_slots_spec.specs.Load.{bankAt, load, four}
+use Rattle.bank_slots_spec.specs.Load.{bank_at, load, four}
 use Rattle.bank_slots_spec.specs.Store.{run_rows}
 use Rattle.bank_slots_spec.specs.Storable.{RunFits}
 use Rattle.bank_slots_spec.specs.Moves.{Moves, on_core}
@@ -56,7 +56,7 @@ module _ (xs : List ℕ) (n : length xs ≡ slots) where
       let r : MotorRun = record { motor = motor; sequence = s } in
       let fits : RunFits r = record { motor = h; two = two; index = index; left = left } in
       moves-write (run_rows (some r)) xs n refl
-      (ap (λ (o : Option MotorRun). on_core (with_command_sequence o) (bankAt (at xs))) (run-back (some r) fits))
+      (ap (λ (o : Option MotorRun). on_core (with_command_sequence o) (bank_at (at xs))) (run-back (some r) fits))
       (λ w. (w.0, (w.1.0, ((w.1.1.0.0, w.1.1.0.1, run-written (some r) fits), w.1.1.1))))
 
   pub stopped : Moves (on_core (command_stop 4)) xs (write stop_rows xs)

@@ -17,13 +17,13 @@ use Rattle.dshot_bank_spec.specs.With.{with_completion_mask, with_busy, with_rec
 use Rattle.dshot_bank_spec.specs.Order.{Order, stop_frame, begin_receive, end_receive}
 use Rattle.dshot_bank_spec.specs.OrderNumber.{code}
 use Rattle.dshot_bank_spec.specs.Send.{latch_fault}
-use Rattle.dshot_bank_spec.specs.Interrupt.{InterruptEvent, completed, faulted, spurious, Interrupted, completion_bit, is_complete, count_completion, lane_done, frame_done, window_opened, window_closed, opens_window, interrupted, latched, afterLane, onDmaInterrupt}
-use Rattle.dshot_bank_spec.specs.Calls.{Call, on_dma_interrupt, refused, State, Stepped, told, act}
+use Rattle.dshot_bank_spec.specs.Interrupt.{InterruptEvent, completed, faulted, spurious, Interrupted, completion_bit, is_complete, count_completion, lane_done, frame_done, window_opened, window_closed, opens_window, interrupted, latched, after_lane, on_dma_interrupt}
+use Rattle.dshot_bank_spec.specs.Calls.{Call, on_dma_interrupt_call, refused, State, Stepped, told, act}
 use Rattle.dshot_bank_spec.specs.Steps.{port_refusal, step}
 use Rattle.dshot_bank_spec.proofs.LaneLaws.{on, off}
 use Rattle.bank_slots_spec.specs.Memory.{◌holds◌, at, write, word, word_rows}
 use Rattle.bank_slots_spec.specs.Places.{slots, BUSY, FAULTED, RECEIVING, REPLIES_WAITING, COMPLETION_MASK, FRAMES_COMPLETED, LANE_COMPLETIONS}
-use Rattle.bank_slots_spec.specs.Load.{bankAt, load, flag}
+use Rattle.bank_slots_spec.specs.Load.{bank_at, load, flag}
 use Rattle.bank_slots_spec.specs.Moves.{Moves, on_core}
 use Rattle.bank_slots_spec.specs.Parts.{bumped}
 use Rattle.bank_slots_spec.specs.Called.{Called, fit, sized, number, state_at, answer_of}
@@ -72,7 +72,7 @@ abbrev lane_counted : ℕ → Core → Core
 lane_counted lane c = with_stats (count_completion lane c.stats) c
 
 mask-set : (xs : List ℕ) → length xs ≡ slots → (v : ℕ) → Moves (on_core (mask_set v)) xs (write (word_rows COMPLETION_MASK v) xs)
-mask-set xs n v = moves-write (word_rows COMPLETION_MASK v) xs n refl (λ j. on_core (mask_set (word_back v j)) (bankAt (at xs))) (λ w. w)
+mask-set xs n v = moves-write (word_rows COMPLETION_MASK v) xs n refl (λ j. on_core (mask_set (word_back v j)) (bank_at (at xs))) (λ w. w)
 
 -- a window of samples is not counted
 counts-sent : (lane : ℕ) (receiving : Bool) (c : Core) → c.frame.receiving ≡ receiving
@@ -113,36 +113,36 @@ handles-after {f} m h = record {
 
 module _ (lane : ℕ) where
   -- What is answered: only the lane's pause, the pause with one order for all lanes, with the orders of a latched fault, or with both.
-  abbrev pausedSlots : ℕ → List ℕ
-  pausedSlots event = event ∷ 1 ∷ (48 + lane) ∷ 0 ∷ 0 ∷ 0 ∷ 0 ∷ 0 ∷ 0 ∷ []
+  abbrev paused_slots : ℕ → List ℕ
+  paused_slots event = event ∷ 1 ∷ (48 + lane) ∷ 0 ∷ 0 ∷ 0 ∷ 0 ∷ 0 ∷ 0 ∷ []
 
-  abbrev orderSlots : ℕ → List ℕ
-  orderSlots order = 0 ∷ 2 ∷ (48 + lane) ∷ order ∷ 0 ∷ 0 ∷ 0 ∷ 0 ∷ 0 ∷ []
+  abbrev order_slots : ℕ → List ℕ
+  order_slots order = 0 ∷ 2 ∷ (48 + lane) ∷ order ∷ 0 ∷ 0 ∷ 0 ∷ 0 ∷ 0 ∷ []
 
-  abbrev latchedSlots : ℕ → List ℕ
-  latchedSlots event = event ∷ 6 ∷ (48 + lane) ∷ 40 ∷ 48 ∷ 49 ∷ 50 ∷ 51 ∷ 0 ∷ []
+  abbrev latched_slots : ℕ → List ℕ
+  latched_slots event = event ∷ 6 ∷ (48 + lane) ∷ 40 ∷ 48 ∷ 49 ∷ 50 ∷ 51 ∷ 0 ∷ []
 
-  abbrev turningSlots : ℕ → List ℕ
-  turningSlots order = 1 ∷ 7 ∷ (48 + lane) ∷ order ∷ 40 ∷ 48 ∷ 49 ∷ 50 ∷ 51 ∷ []
+  abbrev turning_slots : ℕ → List ℕ
+  turning_slots order = 1 ∷ 7 ∷ (48 + lane) ∷ order ∷ 40 ∷ 48 ∷ 49 ∷ 50 ∷ 51 ∷ []
 
   abbrev paused : InterruptEvent → List Order → Core → Interrupted
   paused = interrupted 4 lane true false true true
 
-  handles-paused : {xs out : List ℕ} (e : InterruptEvent) → out ≡ pausedSlots (interrupt_event e) → Handles (paused e []) xs xs out
+  handles-paused : {xs out : List ℕ} (e : InterruptEvent) → out ≡ paused_slots (interrupt_event e) → Handles (paused e []) xs xs out
   handles-paused e t = record { moves = stays refl; told = t }
 
-  handles-order : {xs ys out : List ℕ} {f : Core → Core} (o : Order) → Moves (on_core f) xs ys → out ≡ orderSlots (code o) → Handles (λ (c : Core). paused completed (o ∷ []) (f c)) xs ys out
+  handles-order : {xs ys out : List ℕ} {f : Core → Core} (o : Order) → Moves (on_core f) xs ys → out ≡ order_slots (code o) → Handles (λ (c : Core). paused completed (o ∷ []) (f c)) xs ys out
   handles-order o m t = record { moves = m; told = t }
 
-  pub handles-latched : {xs ys out : List ℕ} (isSpurious : Bool) {event : ℕ} → Moves (on_core (latch_fault 4 isSpurious)) xs ys → out ≡ latchedSlots event
-      → (e : InterruptEvent) → interrupt_event e ≡ event → Handles (latched 4 lane true false true true isSpurious e []) xs ys out
+  pub handles-latched : {xs ys out : List ℕ} (is_spurious : Bool) {event : ℕ} → Moves (on_core (latch_fault 4 is_spurious)) xs ys → out ≡ latched_slots event
+      → (e : InterruptEvent) → interrupt_event e ≡ event → Handles (latched 4 lane true false true true is_spurious e []) xs ys out
   unfolding tabulate
-  handles-latched isSpurious m t e q = record { moves = m; told = t ∙ ap latchedSlots (sym q) }
+  handles-latched is_spurious m t e q = record { moves = m; told = t ∙ ap latched_slots (sym q) }
 
-  pub handles-turning : {xs ys out : List ℕ} (o : Order) {order : ℕ} → Moves (on_core (latch_fault 4 false)) xs ys → out ≡ turningSlots order
+  pub handles-turning : {xs ys out : List ℕ} (o : Order) {order : ℕ} → Moves (on_core (latch_fault 4 false)) xs ys → out ≡ turning_slots order
       → order ≡ code o → Handles (latched 4 lane true false true true false faulted (o ∷ [])) xs ys out
   unfolding tabulate
-  handles-turning o m t q = record { moves = m; told = t ∙ ap turningSlots q }
+  handles-turning o m t q = record { moves = m; told = t ∙ ap turning_slots q }
 
 -- ---- after a lane
 
@@ -155,33 +155,33 @@ all-complete : (mask : ℕ) → mask ≡ 15 → not (eqb mask 15) ≡ false
 all-complete mask h = ap not (eq-eqb mask 15 h)
 
 module _ (lane : ℕ) (turned back : Bool) {xs out : List ℕ} where
-  pub after-some : (word COMPLETION_MASK (at xs) ≡ 15 → ⊥) → out ≡ pausedSlots lane 0 → Handles (afterLane 4 lane true false turned back) xs xs out
-  unfolding load afterLane
+  pub after-some : (word COMPLETION_MASK (at xs) ≡ 15 → ⊥) → out ≡ paused_slots lane 0 → Handles (after_lane 4 lane true false turned back) xs xs out
+  unfolding load after_lane
   after-some h t = handles-as (handles-paused lane completed t) (on _ _ (ap not (ne_eqb _ 15 h)) refl)
 
   pub after-opened : {ys : List ℕ} → word COMPLETION_MASK (at xs) ≡ 15 → opens_window (load xs).core.frame ≡ true → not turned ≡ false
-      → Moves (on_core window_opened) xs ys → out ≡ orderSlots lane 56 → Handles (afterLane 4 lane true false turned back) xs ys out
-  unfolding load afterLane
+      → Moves (on_core window_opened) xs ys → out ≡ order_slots lane 56 → Handles (after_lane 4 lane true false turned back) xs ys out
+  unfolding load after_lane
   after-opened h o r m t = handles-as (handles-order lane begin_receive m t) (off _ _ (all-complete _ h) (on _ _ o (on _ _ (from-opposite turned r) refl)))
 
   pub after-not-opened : {ys : List ℕ} → word COMPLETION_MASK (at xs) ≡ 15 → opens_window (load xs).core.frame ≡ true → not turned ≡ true
-      → Handles (latched 4 lane true false true true false faulted (begin_receive ∷ [])) xs ys out → Handles (afterLane 4 lane true false turned back) xs ys out
-  unfolding load afterLane
+      → Handles (latched 4 lane true false true true false faulted (begin_receive ∷ [])) xs ys out → Handles (after_lane 4 lane true false turned back) xs ys out
+  unfolding load after_lane
   after-not-opened h o r m = handles-as m (off _ _ (all-complete _ h) (on _ _ o (off _ _ (from-opposite turned r) refl)))
 
   pub after-closed : {ys : List ℕ} → word COMPLETION_MASK (at xs) ≡ 15 → opens_window (load xs).core.frame ≡ false → flag (at xs RECEIVING) ≡ true → not back ≡ false
-      → Moves (on_core window_closed) xs ys → out ≡ orderSlots lane 64 → Handles (afterLane 4 lane true false turned back) xs ys out
-  unfolding load afterLane
+      → Moves (on_core window_closed) xs ys → out ≡ order_slots lane 64 → Handles (after_lane 4 lane true false turned back) xs ys out
+  unfolding load after_lane
   after-closed h o r b m t = handles-as (handles-order lane end_receive m t) (off _ _ (all-complete _ h) (off _ _ o (on _ _ r (on _ _ (from-opposite back b) refl))))
 
   pub after-not-closed : {ys : List ℕ} → word COMPLETION_MASK (at xs) ≡ 15 → opens_window (load xs).core.frame ≡ false → flag (at xs RECEIVING) ≡ true → not back ≡ true
-      → Handles (latched 4 lane true false true true false faulted (end_receive ∷ [])) xs ys out → Handles (afterLane 4 lane true false turned back) xs ys out
-  unfolding load afterLane
+      → Handles (latched 4 lane true false true true false faulted (end_receive ∷ [])) xs ys out → Handles (after_lane 4 lane true false turned back) xs ys out
+  unfolding load after_lane
   after-not-closed h o r b m = handles-as m (off _ _ (all-complete _ h) (off _ _ o (on _ _ r (off _ _ (from-opposite back b) refl))))
 
   pub after-sent : {ys : List ℕ} → word COMPLETION_MASK (at xs) ≡ 15 → opens_window (load xs).core.frame ≡ false → flag (at xs RECEIVING) ≡ false
-      → Moves (on_core frame_done) xs ys → out ≡ orderSlots lane 32 → Handles (afterLane 4 lane true false turned back) xs ys out
-  unfolding load afterLane
+      → Moves (on_core frame_done) xs ys → out ≡ order_slots lane 32 → Handles (after_lane 4 lane true false turned back) xs ys out
+  unfolding load after_lane
   after-sent h o r m t = handles-as (handles-order lane stop_frame m t) (off _ _ (all-complete _ h) (off _ _ o (off _ _ r refl)))
 
 -- ---- an interrupt
@@ -195,46 +195,46 @@ bit-missing mask bit motor e h = ap (λ (b : ℕ). not (eqb (bit_and mask b) 0))
 
 -- a fault latched right after the lane's pause
 abbrev latches : ℕ → Bool → InterruptEvent → Core → Interrupted
-latches lane isSpurious e = latched 4 lane true false true true isSpurious e []
+latches lane is_spurious e = latched 4 lane true false true true is_spurious e []
 
 module _ (lane : ℕ) (complete error turned back : Bool) {xs out : List ℕ} where
-  pub on-faulted : flag (at xs FAULTED) ≡ true → out ≡ pausedSlots lane 1 → Handles (onDmaInterrupt 4 lane complete error turned back) xs xs out
-  unfolding load onDmaInterrupt
+  pub on-faulted : flag (at xs FAULTED) ≡ true → out ≡ paused_slots lane 1 → Handles (on_dma_interrupt 4 lane complete error turned back) xs xs out
+  unfolding load on_dma_interrupt
   on-faulted f t = handles-as (handles-paused lane faulted t) (on _ _ f refl)
 
   module _ {ys : List ℕ} (f : flag (at xs FAULTED) ≡ false) where
-    pub on-idle : not (flag (at xs BUSY)) ≡ true → Handles (latches lane true spurious) xs ys out → Handles (onDmaInterrupt 4 lane complete error turned back) xs ys out
-    unfolding load onDmaInterrupt
+    pub on-idle : not (flag (at xs BUSY)) ≡ true → Handles (latches lane true spurious) xs ys out → Handles (on_dma_interrupt 4 lane complete error turned back) xs ys out
+    unfolding load on_dma_interrupt
     on-idle b h = handles-as h (off _ _ f (on _ _ b refl))
 
     module _ (b : not (flag (at xs BUSY)) ≡ false) (bit : ℕ) (e : bit ≡ completion_bit lane) where
-      pub on-again : (bit_and (word COMPLETION_MASK (at xs)) bit ≡ 0 → ⊥) → Handles (latches lane true spurious) xs ys out → Handles (onDmaInterrupt 4 lane complete error turned back) xs ys out
-      unfolding load onDmaInterrupt
+      pub on-again : (bit_and (word COMPLETION_MASK (at xs)) bit ≡ 0 → ⊥) → Handles (latches lane true spurious) xs ys out → Handles (on_dma_interrupt 4 lane complete error turned back) xs ys out
+      unfolding load on_dma_interrupt
       on-again k h = handles-as h (off _ _ f (off _ _ b (on _ _ (bit-there (word COMPLETION_MASK (at xs)) bit lane e k) refl)))
 
       module _ (k : bit_and (word COMPLETION_MASK (at xs)) bit ≡ 0) where
-        pub on-error : error ≡ true → Handles (latches lane false faulted) xs ys out → Handles (onDmaInterrupt 4 lane complete error turned back) xs ys out
-        unfolding load onDmaInterrupt
+        pub on-error : error ≡ true → Handles (latches lane false faulted) xs ys out → Handles (on_dma_interrupt 4 lane complete error turned back) xs ys out
+        unfolding load on_dma_interrupt
         on-error r h = handles-as h (off _ _ f (off _ _ b (off _ _ (bit-missing (word COMPLETION_MASK (at xs)) bit lane e k) (on _ _ r refl))))
 
-        pub on-incomplete : error ≡ false → not complete ≡ true → Handles (latches lane true spurious) xs ys out → Handles (onDmaInterrupt 4 lane complete error turned back) xs ys out
-        unfolding load onDmaInterrupt
+        pub on-incomplete : error ≡ false → not complete ≡ true → Handles (latches lane true spurious) xs ys out → Handles (on_dma_interrupt 4 lane complete error turned back) xs ys out
+        unfolding load on_dma_interrupt
         on-incomplete r d h = handles-as h (off _ _ f (off _ _ b (off _ _ (bit-missing (word COMPLETION_MASK (at xs)) bit lane e k) (off _ _ r (on _ _ d refl)))))
 
-        pub on-complete : {zs : List ℕ} → error ≡ false → not complete ≡ false → Moves (on_core (lane_done lane)) xs zs → Handles (afterLane 4 lane true false turned back) zs ys out
-            → Handles (onDmaInterrupt 4 lane complete error turned back) xs ys out
-        unfolding load onDmaInterrupt afterLane
+        pub on-complete : {zs : List ℕ} → error ≡ false → not complete ≡ false → Moves (on_core (lane_done lane)) xs zs → Handles (after_lane 4 lane true false turned back) zs ys out
+            → Handles (on_dma_interrupt 4 lane complete error turned back) xs ys out
+        unfolding load on_dma_interrupt after_lane
         on-complete r d m h = handles-as (handles-after m h) (off _ _ f (off _ _ b (off _ _ (bit-missing (word COMPLETION_MASK (at xs)) bit lane e k) (off _ _ r (off _ _ d refl)))))
 
 -- ---- the call
 
 module _ (motor : ℕ) (complete error turned back : Bool) where
   abbrev call : Call
-  call = on_dma_interrupt motor complete error turned back
+  call = on_dma_interrupt_call motor complete error turned back
 
   -- of any lane, as the port tests it
   abbrev at-lane : ℕ → Call
-  at-lane i = on_dma_interrupt i complete error turned back
+  at-lane i = on_dma_interrupt_call i complete error turned back
 
   no-lane : (s : State) → 4 ≤ motor → step 4 s call ≡ told s (refused 12)
   unfolding port_refusal
@@ -272,7 +272,7 @@ module _ (motor : ℕ) (complete error turned back : Bool) where
             let a : (b : Buffers) → (step 4 (state_at xs b) call).answer ≡ refused 12 = λ b. ap (λ (r : Stepped). r.answer) (no-lane (state_at xs b) h) in
             (λ b. called-refused xs fits (a b), λ b. out-kept 12 out (answer-fits call (state_at xs b) fits ∙ a b) (λ z. omega arith))
 
-        pub call-done : {ys zs : List ℕ} → motor < 4 → Handles (onDmaInterrupt 4 motor complete error turned back) xs ys zs → Answers xs ys out zs 0
+        pub call-done : {ys zs : List ℕ} → motor < 4 → Handles (on_dma_interrupt 4 motor complete error turned back) xs ys zs → Answers xs ys out zs 0
         call-done l h = (
           λ b. called-done xs fits (sym (ap (λ (r : Stepped). number r.answer) (of-lane (state_at xs b) l))) (moves-as h.moves (sym (ap (λ (r : Stepped). r.state.bank) (of-lane (state_at xs b) l)))),
           λ b. out-filled out (answer-fits call (state_at xs b) fits ∙ ap (λ (r : Stepped). r.answer) (of-lane (state_at xs b) l)) refl h.told,

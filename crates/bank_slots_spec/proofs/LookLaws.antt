@@ -24,7 +24,7 @@ use Rattle.dshot_bank_spec.specs.Steps.{port_refusal, step}
 use Rattle.dshot_bank_spec.specs.Calls as Call
 use Rattle.bank_slots_spec.specs.Memory.{◌holds◌, at, write, word, word_rows}
 use Rattle.bank_slots_spec.specs.Places.{VALUES, RUN, FAULTED, BIDIRECTIONAL, REPLIES_HELD, IN_SECOND, FRAMES_STARTED, FRAMES_COMPLETED, LANE_COMPLETIONS, BUSY_SKIPS, LEASE_EXPIRIES, FRAME_TIMEOUTS, DMA_FAULTS, SPURIOUS, REPLIES}
-use Rattle.bank_slots_spec.specs.Load.{flag, REFUSED, is_refused_kind, reply, four, four_lists, statsAt, laneAt, load}
+use Rattle.bank_slots_spec.specs.Load.{flag, REFUSED, is_refused_kind, reply, four, four_lists, stats_at, lane_at, load}
 use Rattle.bank_slots_spec.specs.Store.{bit}
 use Rattle.bank_slots_spec.specs.Places as Places
 use Rattle.bank_slots_spec.specs.Storable.{Below}
@@ -134,12 +134,12 @@ module _ (xs out : List ℕ) (n : length xs ≡ Places.slots) where
   pub stats-told : Below xs → length out ≡ 22 → {after : List ℕ} → after ≡ take 22 (drop FRAMES_STARTED xs) → Looks stats 22 xs out after 0
   unfolding step port_refusal load tabulate
   stats-told low l h =
-      look-told stats 22 xs out n l (counts (statsAt (at xs))) (λ t. refl) refl (h ∙ ap (λ (ys : List ℕ). take 22 (drop FRAMES_STARTED ys)) (tabulated Places.slots xs n) ∙ all)
+      look-told stats 22 xs out n l (counts (stats_at (at xs))) (λ t. refl) refl (h ∙ ap (λ (ys : List ℕ). take 22 (drop FRAMES_STARTED ys)) (tabulated Places.slots xs n) ∙ all)
     where
       pair : (k : ℕ) → at xs k ∷ at xs (k + 1) ∷ [] ≡ word_slots (word k (at xs))
       pair k = λ j. word_low k (at xs) low j ∷ word-high k (at xs) low j ∷ []
 
-      all : take 22 (drop FRAMES_STARTED (tabulate Places.slots (at xs))) ≡ count_slots (statsAt (at xs))
+      all : take 22 (drop FRAMES_STARTED (tabulate Places.slots (at xs))) ≡ count_slots (stats_at (at xs))
       all =
           λ j. pair FRAMES_STARTED j ++ (pair FRAMES_COMPLETED j
           ++ (four_lists (λ (i : ℕ). pair (LANE_COMPLETIONS + 2 * i) j)
@@ -162,7 +162,7 @@ module _ (xs out : List ℕ) (n : length xs ≡ Places.slots) where
       → Looks reply_stats 24 xs out m 0
   unfolding step port_refusal load
   reply-stats-told l a b c d e f g h i j k m =
-      let s = reply_stats_of (four (laneAt (at xs))) in
+      let s = reply_stats_of (four (lane_at (at xs))) in
       let six = f ∙ ap (copied 75 10) (e ∙ ap (copied 66 8) (d ∙ ap (copied 91 6) (c ∙ ap (copied 82 4) (b ∙ ap (copied 73 2) a)))) in
       let all = m ∙ ap (copied 95 22) (k ∙ ap (copied 86 20) (j ∙ ap (copied 77 18) (i ∙ ap (copied 68 16) (h ∙ ap (copied 93 14) (g ∙ ap (copied 84 12) six))))) in
       look-told reply_stats 24 xs out n l (reply_counts s) (λ t. refl) refl (all ∙ filled (reply_count_slots s) out l)
@@ -250,7 +250,7 @@ module _ (xs out : List ℕ) where
     module _ (l : length out ≡ 17) where
       -- what is taken if some are held, and if none are
       abbrev taken : Bool → Option (List (Reply.Answer Reading))
-      taken held = if held then some (replies_of (four (laneAt (at xs)))) else none
+      taken held = if held then some (replies_of (four (lane_at (at xs)))) else none
 
       taken-so : {ys after : List ℕ} {held : Bool} → flag (at xs REPLIES_HELD) ≡ held → Moves (on_core replies_taken) xs ys → after ≡ replies_slots (taken held) → Taken ys after 0
       unfolding step port_refusal load
@@ -264,16 +264,16 @@ module _ (xs out : List ℕ) where
       handed held from = if held then reply (at xs from) (word (from + 1) (at xs)) else refused no_reply
 
       -- put behind what is there
-      abbrev pub laneTold : Bool → ℕ → ℕ → List ℕ → List ℕ
-      laneTold held from to before = write (slot_rows to (reply_slots (handed held from))) before
+      abbrev pub lane_told : Bool → ℕ → ℕ → List ℕ → List ℕ
+      lane_told held from to before = write (slot_rows to (reply_slots (handed held from))) before
 
       all_told : (held : Bool) → bit held ∷ four_lists (λ (i : ℕ). reply_slots (handed held (REPLIES + 9 * i))) ≡ replies_slots (taken held)
       all_told true = refl
       all_told false = refl
 
       -- all lanes' replies
-      pub replies-taken : {held : Bool} {c d e f : List ℕ} → held ≡ flag (at xs REPLIES_HELD) → c ≡ laneTold held REPLIES 1 (set out 0 (bit held))
-          → d ≡ laneTold held (REPLIES + 9) 5 c → e ≡ laneTold held (REPLIES + 18) 9 d → f ≡ laneTold held (REPLIES + 27) 13 e
+      pub replies-taken : {held : Bool} {c d e f : List ℕ} → held ≡ flag (at xs REPLIES_HELD) → c ≡ lane_told held REPLIES 1 (set out 0 (bit held))
+          → d ≡ lane_told held (REPLIES + 9) 5 c → e ≡ lane_told held (REPLIES + 18) 9 d → f ≡ lane_told held (REPLIES + 27) 13 e
           → Taken (set xs REPLIES_HELD 0) f 0
       replies-taken {held} {f = f} t c d e q =
           let lane : ℕ → Reply.Answer Reading = λ (i : ℕ). handed held (REPLIES + 9 * i) in

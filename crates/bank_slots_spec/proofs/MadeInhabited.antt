@@ -11,7 +11,7 @@ use lib.ListN.{length, get_or}
 use Rattle.dshot_bank_spec.specs.State.{Buffers}
 use Rattle.dshot_bank_spec.specs.Calls.{Call, service_call}
 use Rattle.dshot_bank_spec.specs.Hide.{CallByCall, none_left, one_more, CapturesAlike, Alike, captured, WireAlike, wired}
-use Rattle.dshot_bank_spec.proofs.AlikeInhabited.{example-alike, example-wired, listAt}
+use Rattle.dshot_bank_spec.proofs.AlikeInhabited.{example-alike, example-wired, list_at}
 use Rattle.bank_slots_spec.specs.Load.{flag, four}
 use Rattle.bank_slots_spec.specs.Arguments.{taken, present, masks}
 use Rattle.bank_slots_spec.specs.SlotLists.{Made, MadeByMade, both_end, both_more, MadeAlike, MadeWireAlike}
@@ -46,12 +46,12 @@ made_each fits out (one_more h rest) = both_more h (made_each fits out rest)
 -- For each of the four lanes: two lists in which its mask and all samples of its window differ. A refused call, looks and a lending are among the
 -- calls.
 pub made-example : (lane : ℕ) (l : lane < 4) (fits : Bool) (out : List ℕ) (b : Buffers)
-    → MadeAlike lane (from_c fits out (listAt 4 lane l b true 0)) (from_c fits out (listAt 4 lane l b true 2))
+    → MadeAlike lane (from_c fits out (list_at 4 lane l b true 0)) (from_c fits out (list_at 4 lane l b true 2))
 made-example lane l fits out b = made_each fits out (example-alike 4 lane l b)
 
 -- and in which its captures are present in the one, and absent in the other
 pub made-wired-example : (lane : ℕ) (l : lane < 4) (fits : Bool) (out : List ℕ) (b : Buffers)
-    → MadeWireAlike lane (from_c fits out (listAt 4 lane l b true 0)) (from_c fits out (listAt 4 lane l b false 2))
+    → MadeWireAlike lane (from_c fits out (list_at 4 lane l b true 0)) (from_c fits out (list_at 4 lane l b false 2))
 made-wired-example lane l fits out b = made_each fits out (example-wired 4 lane l b)
 
 -- ---- slices

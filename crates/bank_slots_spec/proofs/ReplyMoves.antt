@@ -23,7 +23,7 @@ use Rattle.dshot_bank_spec.specs.Service.{replies_read, read_replies}
 use Rattle.dshot_bank_spec.proofs.LaneLaws.{on, off, either}
 use Rattle.bank_slots_spec.specs.Memory.{Row, ◌holds◌, at, write, over, within}
 use Rattle.bank_slots_spec.specs.Places.{slots, REPLIES, REPLIES_WAITING, REPLIES_HELD}
-use Rattle.bank_slots_spec.specs.Load.{bankAt, load, flag, reply}
+use Rattle.bank_slots_spec.specs.Load.{bank_at, load, flag, reply}
 use Rattle.bank_slots_spec.specs.Store.{reply_kind, reply_number, lane_rows}
 use Rattle.bank_slots_spec.specs.Written.{is_reply, WrittenAt}
 use Rattle.bank_slots_spec.specs.Storable.{ReplyFits}
@@ -133,10 +133,10 @@ halves-written a h = ap (is_reply (reply_kind a)) (word_back (reply_number a)) �
 module _ (xs : List ℕ) (n : length xs ≡ slots) (l : LaneReply) (f : ReplyFits l.reply) where
   -- a lane for which everything except the halves of its numbers computes
   known : (i : ℕ) → within (lane_rows (REPLIES + 9 * i) l) slots ≡ true
-      → bankAt (over (lane_rows (REPLIES + 9 * i) l) (at xs)) ≡ lane_set i (lane_read_back l) (bankAt (at xs))
+      → bank_at (over (lane_rows (REPLIES + 9 * i) l) (at xs)) ≡ lane_set i (lane_read_back l) (bank_at (at xs))
       → (WrittenAt (at xs) → WrittenAt (over (lane_rows (REPLIES + 9 * i) l) (at xs)))
       → Moves (lane_set i l) xs (write (lane_rows (REPLIES + 9 * i) l) xs)
-  known i h e w = moves-write (lane_rows (REPLIES + 9 * i) l) xs n h (e ∙ ap (λ (x : LaneReply). lane_set i x (bankAt (at xs))) (read_back l f)) w
+  known i h e w = moves-write (lane_rows (REPLIES + 9 * i) l) xs n h (e ∙ ap (λ (x : LaneReply). lane_set i x (bank_at (at xs))) (read_back l f)) w
 
   lane-0 : Moves (lane_set 0 l) xs (write (lane_rows REPLIES l) xs)
   lane-0 = known 0 refl refl (λ w. (w.0, (w.1.0, (w.1.1.0, (halves-written l.reply f, w.1.1.1.1, w.1.1.1.2, w.1.1.1.3)))))
@@ -162,21 +162,21 @@ read_of lanes samples i = read_window (flag (get_or lanes (4 + i) 0)) (window sa
 
 module _ (lanes samples : List ℕ) where
   -- the rows of a lane whose slots begin at k
-  abbrev laneRead : ℕ → ℕ → List ℕ → List Row
-  laneRead k i xs = lane_rows k (count_reply (read_of lanes samples i) (lane_from k (at xs)))
+  abbrev lane_read : ℕ → ℕ → List ℕ → List Row
+  lane_read k i xs = lane_rows k (count_reply (read_of lanes samples i) (lane_from k (at xs)))
 
   read_fits : (i : ℕ) (l : LaneReply) → ReplyFits (count_reply (read_of lanes samples i) l).reply
   read_fits i l = subst ReplyFits (counted-reply (read_of lanes samples i) l) (window-fits (flag (get_or lanes (4 + i) 0)) (window samples i) (get_or lanes (8 + i) 0))
 
   module _ {us vs ws xs ys : List ℕ} where
-    pub replies-decoded : length us ≡ slots → vs ≡ write (laneRead REPLIES 0 us) us → ws ≡ write (laneRead (REPLIES + 9) 1 vs) vs
-        → xs ≡ write (laneRead (REPLIES + 18) 2 ws) ws → ys ≡ write (laneRead (REPLIES + 27) 3 xs) xs
+    pub replies-decoded : length us ≡ slots → vs ≡ write (lane_read REPLIES 0 us) us → ws ≡ write (lane_read (REPLIES + 9) 1 vs) vs
+        → xs ≡ write (lane_read (REPLIES + 18) 2 ws) ws → ys ≡ write (lane_read (REPLIES + 27) 3 xs) xs
         → Moves (λ (b : Bank). with_replies (decode_replies 4 (present lanes) (masks lanes) samples b.replies) b) us ys
     unfolding load decode_replies tabulate
     replies-decoded n e₀ e₁ e₂ e₃ =
-        let n₁ : length vs ≡ slots = ap length e₀ ∙ length-write (laneRead REPLIES 0 us) us ∙ n in
-        let n₂ : length ws ≡ slots = ap length e₁ ∙ length-write (laneRead (REPLIES + 9) 1 vs) vs ∙ n₁ in
-        let n₃ : length xs ≡ slots = ap length e₂ ∙ length-write (laneRead (REPLIES + 18) 2 ws) ws ∙ n₂ in
+        let n₁ : length vs ≡ slots = ap length e₀ ∙ length-write (lane_read REPLIES 0 us) us ∙ n in
+        let n₂ : length ws ≡ slots = ap length e₁ ∙ length-write (lane_read (REPLIES + 9) 1 vs) vs ∙ n₁ in
+        let n₃ : length xs ≡ slots = ap length e₂ ∙ length-write (lane_read (REPLIES + 18) 2 ws) ws ∙ n₂ in
         let m₀ : Moves (lane_counted 0 (read_of lanes samples 0)) us vs = moves-as (moves-at (sym e₀) (lane-0 us n (count_reply (read_of lanes samples 0) (lane_from REPLIES (at us))) (read_fits 0 (lane_from REPLIES (at us))))) refl in
         let m₁ : Moves (lane_counted 1 (read_of lanes samples 1)) vs ws = moves-as (moves-at (sym e₁) (lane-1 vs n₁ (count_reply (read_of lanes samples 1) (lane_from (REPLIES + 9) (at vs))) (read_fits 1 (lane_from (REPLIES + 9) (at vs))))) refl in
         let m₂ : Moves (lane_counted 2 (read_of lanes samples 2)) ws xs = moves-as (moves-at (sym e₂) (lane-2 ws n₂ (count_reply (read_of lanes samples 2) (lane_from (REPLIES + 18) (at ws))) (read_fits 2 (lane_from (REPLIES + 18) (at ws))))) refl in

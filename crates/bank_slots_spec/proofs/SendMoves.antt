@@ -28,7 +28,7 @@ use Rattle.dshot_bank_spec.specs.Steps.{buffers_fit}
 use Rattle.dshot_bank_spec.proofs.LaneLaws.{on, off, under}
 use Rattle.bank_slots_spec.specs.Memory.{Row, ◌holds◌, at, write, over, within, word, word_rows, long_rows}
 use Rattle.bank_slots_spec.specs.Places.{slots, VALUES, REQUEST, REQUEST_SENT, RUN, BUSY, IN_SECOND, COMPLETION_MASK, STARTED, FRAMES_STARTED}
-use Rattle.bank_slots_spec.specs.Load.{flag, choice, run_from, bankAt, load}
+use Rattle.bank_slots_spec.specs.Load.{flag, choice, run_from, bank_at, load}
 use Rattle.bank_slots_spec.specs.Store.{bit}
 use Rattle.bank_slots_spec.specs.Written.{WrittenAt}
 use Rattle.bank_slots_spec.specs.Moves.{Moves, on_core}
@@ -160,15 +160,15 @@ module _ (xs : List ℕ) (n : length xs ≡ slots) where
 
   -- of lane i, whose slot is IN_SECOND + i
   mark-turned : (i : ℕ) → within (mark_row (IN_SECOND + i) xs) slots ≡ true
-      → ((v : Bool) → bankAt (over ((IN_SECOND + i holds bit v) ∷ []) (at xs)) ≡ on_core (mark_set i (flag (bit v))) (bankAt (at xs)))
-      → bankAt (at xs) ≡ on_core (mark_turned i false) (bankAt (at xs))
-      → on_core (mark_set i (not (flag (at xs (IN_SECOND + i))))) (bankAt (at xs)) ≡ on_core (mark_turned i true) (bankAt (at xs))
+      → ((v : Bool) → bank_at (over ((IN_SECOND + i holds bit v) ∷ []) (at xs)) ≡ on_core (mark_set i (flag (bit v))) (bank_at (at xs)))
+      → bank_at (at xs) ≡ on_core (mark_turned i false) (bank_at (at xs))
+      → on_core (mark_set i (not (flag (at xs (IN_SECOND + i))))) (bank_at (at xs)) ≡ on_core (mark_turned i true) (bank_at (at xs))
       → ((v : Bool) → WrittenAt (at xs) → WrittenAt (over ((IN_SECOND + i holds bit v) ∷ []) (at xs)))
       → (b : Bool) → Moves (on_core (mark_turned i b)) xs (pick b (write (mark_row (IN_SECOND + i) xs) xs) xs)
   unfolding load
   mark-turned i h e s t w true =
       let v = not (flag (at xs (IN_SECOND + i))) in
-      moves-write (mark_row (IN_SECOND + i) xs) xs n h (e v ∙ ap (λ (x : Bool). on_core (mark_set i x) (bankAt (at xs))) (flag-back v) ∙ t) (w v)
+      moves-write (mark_row (IN_SECOND + i) xs) xs n h (e v ∙ ap (λ (x : Bool). on_core (mark_set i x) (bank_at (at xs))) (flag-back v) ∙ t) (w v)
   mark-turned i h e s t w false = stays s
 
 -- the four marks, one after another
@@ -225,7 +225,7 @@ module _ (xs : List ℕ) (n : length xs ≡ slots) (now : ℕ) {us vs : List ℕ
     in-flight h =
         let zs = write (flown_rows now) xs in
         let one : Moves (on_core (flown now)) xs zs =
-        moves-write (flown_rows now) xs n refl (λ j. on_core (flown (long-back now h j)) (bankAt (at xs))) (λ w. ((refl, w.0.1, w.0.2, w.0.3, w.0.4, w.0.5), w.1)) in
+        moves-write (flown_rows now) xs n refl (λ j. on_core (flown (long-back now h j)) (bank_at (at xs))) (λ w. ((refl, w.0.1, w.0.2, w.0.3, w.0.4, w.0.5), w.1)) in
         let two : Moves (on_core (λ (c : Core). with_stats (with_frames_started (wrapping_add c.stats.frames_started) c.stats) c)) zs (bumped FRAMES_STARTED zs) =
         counted zs (length-write (flown_rows now) xs ∙ n) FRAMES_STARTED with_frames_started (λ (s : Stats). s.frames_started) refl (λ v. refl) refl (λ w. w) in
         moves-at (sym (g ∙ ap (bumped FRAMES_STARTED) flown-rows)) (moves-as (moves-then one two) refl)
@@ -244,7 +244,7 @@ module _ (xs : List ℕ) (n : length xs ≡ slots) where
   unfolding load
   no-request true z =
       let e : is_some (choice (at xs REQUEST)) ≡ false = ap is_some (sym (on none (some ((at xs REQUEST - 1) % 4)) (eq-eqb (at xs REQUEST) 0 z) refl)) in
-      stays (ap (λ (t : Telemetry). on_core (with_telemetry t) (bankAt (at xs))) (off _ _ e refl))
+      stays (ap (λ (t : Telemetry). on_core (with_telemetry t) (bank_at (at xs))) (off _ _ e refl))
   no-request false z = stays refl
 
   pub request-carried : (ordinary : Bool) → not ordinary ≡ false → (at xs REQUEST ≡ 0 → ⊥) → Moves (on_core (request_carried ordinary)) xs (write (carried_rows (at xs REQUEST)) xs)
@@ -253,7 +253,7 @@ module _ (xs : List ℕ) (n : length xs ≡ slots) where
       let e : is_some (choice (at xs REQUEST)) ≡ true = ap is_some (sym (off none (some ((at xs REQUEST - 1) % 4)) (ne_eqb (at xs REQUEST) 0 z) refl)) in
       let m : Moves (on_core (request_carried true)) xs (write (carried_rows (at xs REQUEST)) xs) =
       moves-write (carried_rows (at xs REQUEST)) xs n refl
-      (ap (λ (t : Telemetry). on_core (with_telemetry t) (bankAt (at xs))) (on _ _ e refl))
+      (ap (λ (t : Telemetry). on_core (with_telemetry t) (bank_at (at xs))) (on _ _ e refl))
       (λ w. (w.0, (w.1.0, ((refl, w.1.1.0.0, w.1.1.0.2), w.1.1.1)))) in
       subst (λ (b : Bool). Moves (on_core (request_carried b)) xs (write (carried_rows (at xs REQUEST)) xs)) (sym (not-false ordinary h)) m
 

@@ -17,7 +17,7 @@ use Rattle.dshot_bank_spec.specs.With.{with_busy_skips, with_lease_expiries, wit
 use Rattle.dshot_bank_spec.specs.Order.{latch_orders}
 use Rattle.dshot_bank_spec.specs.Commands.{command_stop, clear_request_sent}
 use Rattle.dshot_bank_spec.specs.Send.{latch_fault}
-use Rattle.dshot_bank_spec.specs.Service.{is_some_and_expired, demand_expired, expire_lease, count_busy_skip, count_timeout, Skipped, skipped, service_busy, replies_read, read_replies, Served, unsent, sending, serviceCore, service}
+use Rattle.dshot_bank_spec.specs.Service.{is_some_and_expired, demand_expired, expire_lease, count_busy_skip, count_timeout, Skipped, skipped, service_busy, replies_read, read_replies, Served, unsent, sending, service_core, service}
 use Rattle.dshot_bank_spec.specs.Service as Service
 use Rattle.dshot_bank_spec.specs.Calls.{Call, service_call, refused, State, Stepped, told, act}
 use Rattle.dshot_bank_spec.specs.Steps.{service_fits, length_refusal, port_refusal, refuse_or, step}
@@ -42,19 +42,19 @@ held : (over : ℕ) → (over ≡ 0 → ⊥) → lease_of over ≡ some (over - 
 held over h = sym (off none (some (over - 1)) (ne_eqb over 0 h) refl)
 
 module _ (now : ℕ) (xs : List ℕ) where
-  abbrev isExpired : ℕ → Bool
-  isExpired over = is_some_and_expired (Memory.long LEASE_STARTED (at xs)) now (lease_of over)
+  abbrev is_expired : ℕ → Bool
+  is_expired over = is_some_and_expired (Memory.long LEASE_STARTED (at xs)) now (lease_of over)
 
   pub no-lease : Memory.long LEASE_OVER (at xs) ≡ 0 → false ≡ demand_expired now (load xs).core.demand
   unfolding load demand_expired
-  no-lease e = sym (ap isExpired e)
+  no-lease e = sym (ap is_expired e)
 
   pub lease-over : (over passed : ℕ) → over ≡ Memory.long LEASE_OVER (at xs) → (over ≡ 0 → ⊥) → passed ≡ elapsed 64 (Memory.long LEASE_STARTED (at xs)) now
       → leb over passed ≡ demand_expired now (load xs).core.demand
   unfolding load demand_expired lease_expired
   lease-over over passed e h p =
       let q : over ≡ suc (over - 1) = omega (arith, h) in
-      (λ j. leb (q j) (p j)) ∙ sym (ap (is_some_and_expired (Memory.long LEASE_STARTED (at xs)) now) (held over h)) ∙ ap isExpired e
+      (λ j. leb (q j) (p j)) ∙ sym (ap (is_some_and_expired (Memory.long LEASE_STARTED (at xs)) now) (held over h)) ∙ ap is_expired e
 
 module _ {xs : List ℕ} (expired : Bool) where
   pub lease-lasts : expired ≡ false → Moves (on_core (expire_lease 4 expired)) xs xs
@@ -171,7 +171,7 @@ module _ (now : ℕ) (lanes samples : List ℕ) (b : Buffers) {xs ys : List ℕ}
   served = service 4 now (taken lanes) (present lanes) (masks lanes) samples
 
   pub serve-faulted : {out : List ℕ} → flag (at ys FAULTED) ≡ true → out ≡ event_slots 3 → Serves served b b xs ys out
-  unfolding load serviceCore
+  unfolding load service_core
   serve-faulted {out} f o =
       let fault = sym (ap (λ (k : Bank). k.core.frame.faulted) m.loads) ∙ f in
       let s : Skips (λ (c : Core). skipped Service.faulted [] (clear_request_sent c)) xs ys out = record { moves = m; told = o } in
@@ -195,14 +195,14 @@ module _ (now : ℕ) (lanes samples : List ℕ) (b : Buffers) {xs ys : List ℕ}
     in-flight t = sym (ap (λ (k : Bank). k.core.frame.busy) (l.loads ∙ ap (on_core (expire_lease 4 expired)) m.loads) ∙ ap (λ (x : Bool). (leased x).frame.busy) ran_out) ∙ t
 
     pub serve-skips : {ws out : List ℕ} → flag (at zs BUSY) ≡ true → Skips (service_busy 4 now expired) zs ws out → Serves served b b xs ws out
-    unfolding serviceCore
+    unfolding service_core
     serve-skips t s =
         serves-as (serves-after (λ k. lease-marks expired k.core) (moves-then m l) (serves-skipped s))
         (ap (λ (x : Bool). keeping (service_busy 4 now x) (record { core = leased x; replies = (load xs).replies }) b) ran_out ∙ off _ _ fault (on _ _ (in-flight t) refl))
 
     pub serve-sends : {b' : Buffers} {us ws out : List ℕ} → flag (at zs BUSY) ≡ false → Moves (windows_read (present lanes) (masks lanes) samples) zs us
         → Serves (λ (k : Bank) (b : Buffers). sending 4 now (taken lanes) [] [] [] [] b expired k.core k.replies) b b' us ws out → Serves served b b' xs ws out
-    unfolding serviceCore
+    unfolding service_core
     serve-sends t r s =
         serves-as (serves-after
         (λ k. read-marks (expire_lease 4 expired (clear_request_sent k.core)) ∙ lease-marks expired k.core)

@@ -22,7 +22,7 @@ use Rattle.bank_slots_spec.specs.Store.{store}
 use Rattle.bank_slots_spec.specs.Storable.{Storable}
 use Rattle.bank_slots_spec.specs.Called.{Called, state_at, bank_after, buffers_after}
 use Rattle.bank_slots_spec.specs.SlotLists.{Made, made, made_trace, made_run, fitting, Shown, Ran, none_left, one_more, leaves, both_end, both_more, MadeWireAlike}
-use Rattle.bank_slots_spec.specs.SlotClaims.{SameSlots, no_state, one_state, SlotsFollow, service_made, stateBefore, bankServed, StoresIn, SlotsStores}
+use Rattle.bank_slots_spec.specs.SlotClaims.{SameSlots, no_state, one_state, SlotsFollow, service_made, state_before, bank_served, StoresIn, SlotsStores}
 use Rattle.bank_slots_spec.proofs.Stored.{length-store, load_store, new-fits}
 use Rattle.bank_slots_spec.proofs.CalledStored.{called-stored, called-fits}
 use Rattle.bank_slots_spec.proofs.HiddenSlots.{same-slots}
@@ -105,17 +105,17 @@ slots-store timing b ys ms now taken present masks samples out e = record {
     ran : made_run (state_at ys b) ms ≡ run 4 start (fitting ms)
     ran = ap (λ (s : State). made_run s ms) e ∙ left start ms
 
-    before : made_run (state_at ys b) ms ≡ stateBefore timing b ms now taken present masks samples
+    before : made_run (state_at ys b) ms ≡ state_before timing b ms now taken present masks samples
     before = ran ∙ sym (accepted-run 4 start (fitting ms))
 
     is : made (made_run (state_at ys b) ms) m ≡ served 4 timing b (fitting ms) now taken present masks samples
     is = ap (λ (s : State). step 4 s (service_call now taken present masks samples)) ran
 
     after : (rest : List Made) {rs : List Shown} (p : Ran ys b (ms ++ (m ∷ rest)) rs)
-        → load (get_or (leaves p) (length ms) []) ≡ bankServed timing b ms now taken present masks samples
+        → load (get_or (leaves p) (length ms) []) ≡ bank_served timing b ms now taken present masks samples
     after rest p = (holds ms m rest p).1 ∙ ap (λ (t : Stepped). t.state.bank) is
 
-    bank : StoresIn timing b ms now taken present masks samples (bankServed timing b ms now taken present masks samples)
+    bank : StoresIn timing b ms now taken present masks samples (bank_served timing b ms now taken present masks samples)
     bank = record {
       stores = stores 4 timing b (fitting ms) now taken present masks samples;
       decodes = decodes 4 timing b (fitting ms) now taken present masks samples;

@@ -11,7 +11,7 @@ use Rattle.dshot_reply_spec.specs.Refusals.{wrong_length}
 use Rattle.dshot_reply_spec.specs.Answer as Reply
 use Rattle.dshot_bank_spec.specs.State.{Core, Bank, Buffers}
 use Rattle.dshot_bank_spec.specs.Commands.{enable_bidirectional, command_throttles, command_special, request_telemetry}
-use Rattle.dshot_bank_spec.specs.Calls.{Call, enable_bidirectional_call, command_stop_call, command_throttles_call, command_special_call, request_telemetry_call, cancel_telemetry_request_call, take_telemetry_request_sent, service_call, on_dma_interrupt, take_replies, is_bidirectional, is_faulted, stats, requested_values_call, command_pending_call, reply_stats, sending, lend, refused, State, Stepped, told, commanded, act}
+use Rattle.dshot_bank_spec.specs.Calls.{Call, enable_bidirectional_call, command_stop_call, command_throttles_call, command_special_call, request_telemetry_call, cancel_telemetry_request_call, take_telemetry_request_sent, service_call, on_dma_interrupt_call, take_replies, is_bidirectional, is_faulted, stats, requested_values_call, command_pending_call, reply_stats, sending, lend, refused, State, Stepped, told, commanded, act}
 use Rattle.dshot_bank_spec.specs.Steps.{step}
 use Rattle.dshot_bank_spec.specs.Lists.{is_look, run, trace}
 use Rattle.dshot_bank_spec.specs.Hide.{WireAlike, hide, hide_state}
@@ -132,7 +132,7 @@ fills (request_telemetry_call motor) = false
 fills cancel_telemetry_request_call = false
 fills take_telemetry_request_sent = false
 fills (service_call now taken present masks samples) = true
-fills (on_dma_interrupt motor complete error turned back) = false
+fills (on_dma_interrupt_call motor complete error turned back) = false
 fills take_replies = false
 fills is_bidirectional = false
 fills is_faulted = false
@@ -156,7 +156,7 @@ act-keeps s (request_telemetry_call motor) e = commanded-keeps s (request_teleme
 act-keeps s cancel_telemetry_request_call e = refl
 act-keeps s take_telemetry_request_sent e = refl
 act-keeps s (service_call now taken present masks samples) e = cc
-act-keeps s (on_dma_interrupt motor complete error turned back) e = refl
+act-keeps s (on_dma_interrupt_call motor complete error turned back) e = refl
 act-keeps s take_replies e = refl
 act-keeps s is_bidirectional e = refl
 act-keeps s is_faulted e = refl

@@ -15,7 +15,7 @@ use Rattle.dshot_spec.specs.Timing.{Timing}
 use Rattle.dshot_bank_spec.specs.Commands.{no_replies, from_lanes}
 use Rattle.bank_slots_spec.specs.Memory.{at, write, over, within, word, long, word_rows, long_rows}
 use Rattle.bank_slots_spec.specs.Places.{slots, LEASE_STARTED, LEASE_OVER, REQUEST, REQUEST_SENT, RUN, BUSY, FAULTED, BIDIRECTIONAL, RECEIVING, REPLIES_WAITING, REPLIES_HELD, IN_SECOND, COMPLETION_MASK, STARTED, FRAMES_STARTED, FRAMES_COMPLETED, BUSY_SKIPS, LEASE_EXPIRIES, FRAME_TIMEOUTS, DMA_FAULTS, SPURIOUS, LANE_COMPLETIONS, REPLIES}
-use Rattle.bank_slots_spec.specs.Load.{flag, reply, four, demandAt, telemetryAt, run_at, frame_at, statsAt, coreAt, laneAt, bankAt, load}
+use Rattle.bank_slots_spec.specs.Load.{flag, reply, four, demand_at, telemetry_at, run_at, frame_at, stats_at, core_at, lane_at, bank_at, load}
 use Rattle.bank_slots_spec.specs.Store.{bit, reply_kind, reply_number, demand_rows, telemetry_rows, run_rows, frame_rows, stats_rows, core_rows, lane_rows, replies_rows, bank_rows, store}
 use Rattle.bank_slots_spec.specs.Written.{is_reply, FlagsWritten, MarksWritten, RequestsWritten, ReplyWritten, RepliesWritten, WrittenAt, Written}
 use Rattle.bank_slots_spec.specs.Storable.{Below, ReplyFits, Storable}
@@ -64,7 +64,7 @@ lanes-back l h f = (λ j. four (λ (i : ℕ). lane-back (get_or l i no_replies) 
 
 pub load_store : (b : Bank) → Storable b → load (store b) ≡ b
 unfolding load
-load_store b h = ap bankAt (at_store b) ∙ λ j. record {
+load_store b h = ap bank_at (at_store b) ∙ λ j. record {
   core = record {
     timing = b.core.timing;
     demand = record {
@@ -177,7 +177,7 @@ loads-fit xs low = record {
   replies = lane;
 }
   where
-    lane : (i : ℕ) → ReplyFits (get_or (four (laneAt (at xs))) i no_replies).reply
+    lane : (i : ℕ) → ReplyFits (get_or (four (lane_at (at xs))) i no_replies).reply
     lane zero = reply-fits (at xs REPLIES) (word (REPLIES + 1) (at xs))
     lane (suc zero) = reply-fits (at xs (REPLIES + 9)) (word (REPLIES + 10) (at xs))
     lane (suc (suc zero)) = reply-fits (at xs (REPLIES + 18)) (word (REPLIES + 19) (at xs))
@@ -193,13 +193,13 @@ module _ (m : ℕ → ℕ) (low : (i : ℕ) → m i < 65536) where
   long-agrees : (k : ℕ) → Agrees m (long_rows k (long k m))
   long-agrees k = row (long-0 k m low) (row (long-1 k m low) (row (long-2 k m low) (row (long-3 k m low) nil)))
 
-  demand-agrees : Agrees m (demand_rows (demandAt m))
+  demand-agrees : Agrees m (demand_rows (demand_at m))
   demand-agrees =
       row refl (row refl (row refl (row refl
       (agrees-append _ (long-agrees LEASE_STARTED)
       (subst (λ (n : ℕ). Agrees m (long_rows LEASE_OVER n)) (lease-kept (long LEASE_OVER m)) (long-agrees LEASE_OVER))))))
 
-  telemetry-agrees : RequestsWritten m → Agrees m (telemetry_rows (telemetryAt m))
+  telemetry-agrees : RequestsWritten m → Agrees m (telemetry_rows (telemetry_at m))
   telemetry-agrees w = row (choice-kept (m REQUEST) w.0) (row (choice-kept (m REQUEST_SENT) w.1) nil)
 
   run-agrees : RequestsWritten m → Agrees m (run_rows (run_at m))
@@ -221,7 +221,7 @@ module _ (m : ℕ → ℕ) (low : (i : ℕ) → m i < 65536) where
       (row (flag-kept (m (IN_SECOND + 3)) w.3)
       (agrees-append _ (word-agrees COMPLETION_MASK) (long-agrees STARTED)))))))))))
 
-  stats-agree : Agrees m (stats_rows (statsAt m))
+  stats-agree : Agrees m (stats_rows (stats_at m))
   stats-agree =
       agrees-append _ (word-agrees FRAMES_STARTED)
       (agrees-append _ (word-agrees FRAMES_COMPLETED)
@@ -243,13 +243,13 @@ module _ (m : ℕ → ℕ) (low : (i : ℕ) → m i < 65536) where
       (agrees-append _ (word-agrees (k + 3))
       (agrees-append _ (word-agrees (k + 5)) (word-agrees (k + 7)))))
 
-  replies-agree : RepliesWritten m → Agrees m (replies_rows (four (laneAt m)))
+  replies-agree : RepliesWritten m → Agrees m (replies_rows (four (lane_at m)))
   replies-agree w =
       agrees-append _ (lane-agrees REPLIES w.0)
       (agrees-append _ (lane-agrees (REPLIES + 9) w.1)
       (agrees-append _ (lane-agrees (REPLIES + 18) w.2) (lane-agrees (REPLIES + 27) w.3)))
 
-  core-agrees : FlagsWritten m → MarksWritten m → RequestsWritten m → Agrees m (core_rows (coreAt m))
+  core-agrees : FlagsWritten m → MarksWritten m → RequestsWritten m → Agrees m (core_rows (core_at m))
   core-agrees f w r =
       row refl (row refl (row refl (row refl
       (agrees-append _ demand-agrees
@@ -257,7 +257,7 @@ module _ (m : ℕ → ℕ) (low : (i : ℕ) → m i < 65536) where
       (agrees-append _ (run-agrees r)
       (agrees-append _ (frame-agrees f w) stats-agree)))))))
 
-  bank-agrees : WrittenAt m → Agrees m (bank_rows (bankAt m))
+  bank-agrees : WrittenAt m → Agrees m (bank_rows (bank_at m))
   bank-agrees w = agrees-append _ (core-agrees w.0 w.1.0 w.1.1.0) (replies-agree w.1.1.1)
 
 -- a bank's rows fill every slot, whatever was there
@@ -273,7 +273,7 @@ written-stored xs n low w =
     ∙ covered b (at xs)
   where
     b : Bank
-    b = bankAt (at xs)
+    b = bank_at (at xs)
 
 -- what a step leaves of slots that the library wrote is what it writes for the bank after the step
 pub stored-moves : {f : Bank → Bank} (b : Bank) (ys : List ℕ) → Storable b → Moves f (store b) ys → length ys ≡ slots → Below ys → ys ≡ store (f b)

@@ -64,11 +64,11 @@ module _ (m : ℕ → ℕ) where
   abbrev pub timing_at : Timing
   timing_at = record { arr = m TIMING; zero_high = m (TIMING + 1); one_high = m (TIMING + 2); reply_sample_arr = m (TIMING + 3) }
 
-  abbrev pub demandAt : Demand
-  demandAt = record { requested_values = four (λ (i : ℕ). m (VALUES + i)); lease_started_ms = long LEASE_STARTED m; lease_duration_ms = lease_of (long LEASE_OVER m) }
+  abbrev pub demand_at : Demand
+  demand_at = record { requested_values = four (λ (i : ℕ). m (VALUES + i)); lease_started_ms = long LEASE_STARTED m; lease_duration_ms = lease_of (long LEASE_OVER m) }
 
-  abbrev pub telemetryAt : Telemetry
-  telemetryAt = record { request = choice (m REQUEST); request_sent = choice (m REQUEST_SENT) }
+  abbrev pub telemetry_at : Telemetry
+  telemetry_at = record { request = choice (m REQUEST); request_sent = choice (m REQUEST_SENT) }
 
   -- a motor and its run, or none
   abbrev pub run_at : Option MotorRun
@@ -87,8 +87,8 @@ module _ (m : ℕ → ℕ) where
     in_second = four (λ (i : ℕ). flag (m (IN_SECOND + i)));
   }
 
-  abbrev pub statsAt : Stats
-  statsAt = record {
+  abbrev pub stats_at : Stats
+  stats_at = record {
     frames_started = word FRAMES_STARTED m;
     frames_completed = word FRAMES_COMPLETED m;
     lane_completions = four (λ (i : ℕ). word (LANE_COMPLETIONS + 2 * i) m);
@@ -99,17 +99,17 @@ module _ (m : ℕ → ℕ) where
     spurious_interrupts = word SPURIOUS m;
   }
 
-  abbrev pub coreAt : Core
-  coreAt = record { timing = timing_at; demand = demandAt; telemetry = telemetryAt; command_sequence = run_at; frame = frame_at; stats = statsAt }
+  abbrev pub core_at : Core
+  core_at = record { timing = timing_at; demand = demand_at; telemetry = telemetry_at; command_sequence = run_at; frame = frame_at; stats = stats_at }
 
   -- lane i's record
-  abbrev pub laneAt : ℕ → LaneReply
-  laneAt i = lane_from (REPLIES + 9 * i) m
+  abbrev pub lane_at : ℕ → LaneReply
+  lane_at i = lane_from (REPLIES + 9 * i) m
 
   -- the whole bank
-  abbrev pub bankAt : Bank
-  bankAt = record { core = coreAt; replies = four laneAt }
+  abbrev pub bank_at : Bank
+  bank_at = record { core = core_at; replies = four lane_at }
 
 -- the bank that the slots hold, whatever they hold
 unfoldable pub load : List ℕ → Bank
-load xs = bankAt (at xs)
+load xs = bank_at (at xs)

@@ -107,28 +107,28 @@ service_made now taken present masks samples out = record { fits = true; call = 
 
 module _ (timing : Timing) (b : Buffers) (ms : List Made) (now : ℕ) (taken present : List Bool) (masks samples : List ℕ) where
   -- the state before the service, and the bank after it, as in the claims about the bank
-  abbrev pub stateBefore : State
-  stateBefore = before 4 timing b (fitting ms) now taken present masks samples
+  abbrev pub state_before : State
+  state_before = before 4 timing b (fitting ms) now taken present masks samples
 
-  abbrev pub bankServed : Bank
-  bankServed = (served 4 timing b (fitting ms) now taken present masks samples).state.bank
+  abbrev pub bank_served : Bank
+  bank_served = (served 4 timing b (fitting ms) now taken present masks samples).state.bank
 
   -- what is claimed of the bank after the service, if the lent buffers and captures fit
   pub record StoresIn (after : Bank) : Type 0 where
-    pub stores : fits 4 stateBefore samples ≡ true → Stored 4 timing b (fitting ms) now taken present masks samples after
-    pub decodes : (lane : ℕ) → fits 4 stateBefore samples ≡ true → reads stateBefore ≡ true → lane < 4 → get_or present lane false ≡ true
+    pub stores : fits 4 state_before samples ≡ true → Stored 4 timing b (fitting ms) now taken present masks samples after
+    pub decodes : (lane : ℕ) → fits 4 state_before samples ≡ true → reads state_before ≡ true → lane < 4 → get_or present lane false ≡ true
         → Decoded 4 timing b (fitting ms) now taken present masks samples after lane
 
   pub record SlotsStore (ys out : List ℕ) : Type 0 where
     -- The service is the one of the claims about the bank.
     pub is : made (made_run (state_at ys b) ms) (service_made now taken present masks samples out) ≡ served 4 timing b (fitting ms) now taken present masks samples
-    pub bank : StoresIn bankServed
+    pub bank : StoresIn bank_served
     -- In a list that ran, the slots that the service found hold the bank before it.
     pub found : (rest : List Made) {rs : List Shown} (p : Ran ys b (ms ++ (service_made now taken present masks samples out ∷ rest)) rs)
-        → load (get_or (ys ∷ leaves p) (length ms) []) ≡ stateBefore.bank
+        → load (get_or (ys ∷ leaves p) (length ms) []) ≡ state_before.bank
     -- The slots that the service left hold the bank after it. The same is claimed of the bank in them.
     pub left : (rest : List Made) {rs : List Shown} (p : Ran ys b (ms ++ (service_made now taken present masks samples out ∷ rest)) rs)
-        → load (get_or (leaves p) (length ms) []) ≡ bankServed
+        → load (get_or (leaves p) (length ms) []) ≡ bank_served
     pub slots : (rest : List Made) {rs : List Shown} (p : Ran ys b (ms ++ (service_made now taken present masks samples out ∷ rest)) rs)
         → StoresIn (load (get_or (leaves p) (length ms) []))
 

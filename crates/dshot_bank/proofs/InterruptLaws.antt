@@ -6,7 +6,7 @@ use Rattle.dshot_bank_spec.specs.State.{Buffers}
 use Rattle.dshot_bank_spec.specs.State as State
 use Rattle.dshot_bank_spec.specs.Order.{Order, pause_and_clear, latch_orders}
 use Rattle.dshot_bank_spec.specs.Interrupt as Spec
-use Rattle.dshot_bank_spec.specs.Calls.{interrupted, on_dma_interrupt, act}
+use Rattle.dshot_bank_spec.specs.Calls.{interrupted, on_dma_interrupt_call, act}
 use Rattle.dshot_bank.specs.declared.Core.{Core}
 use Rattle.dshot_bank.specs.declared.DshotBank.{DshotBank}
 use Rattle.dshot_bank.specs.declared.DshotMotor.{DshotMotor}
@@ -90,9 +90,9 @@ just_so {r} {s} h = just r.orders (replicate 4 0) s.orders _ h.orders h.duties (
 
 -- an interrupt of a motor
 pub stepped-so : {r : Handled} (self : DshotBank) (b : Buffers) (lane : ℕ) (complete error turned turned-back : Bool)
-    → Interrupts r (Spec.onDmaInterrupt 4 lane complete error turned turned-back (core_of self.core))
+    → Interrupts r (Spec.on_dma_interrupt 4 lane complete error turned turned-back (core_of self.core))
     → stepped (interrupted (interrupt_event_of r.event) (orders_of r.orders (replicate 4 0))) (record { core = r.core; replies = self.replies }) b
-    ≡ act 4 (state_of self b) (on_dma_interrupt lane complete error turned turned-back)
+    ≡ act 4 (state_of self b) (on_dma_interrupt_call lane complete error turned turned-back)
 stepped-so {r} self b lane complete error turned turned-back h =
-    let told = back r.orders (replicate 4 0) (Spec.onDmaInterrupt 4 lane complete error turned turned-back (core_of self.core)).orders h.orders h.duties h.whole in
+    let told = back r.orders (replicate 4 0) (Spec.on_dma_interrupt 4 lane complete error turned turned-back (core_of self.core)).orders h.orders h.duties h.whole in
     λ j. record { answer = interrupted (h.event j) (told j); state = record { bank = record { core = h.core j; replies = replies_of self.replies }; buffers = b } }

@@ -7,11 +7,11 @@ ghost use Rattle.std.specs.Prelude.{◌≡◌, ◌<◌, ◌≤◌, true, false, 
 ghost use Rattle.dshot_bank_spec.specs.State.{Buffers};
 ghost use Rattle.dshot_bank_spec.specs.Order.{Order, latch_orders};
 ghost use Rattle.dshot_bank_spec.specs.Send.{latch_fault};
-ghost use Rattle.dshot_bank_spec.specs.Interrupt.{count_completion, lane_done, frame_done, window_opened, window_closed, opens_window, afterLane};
+ghost use Rattle.dshot_bank_spec.specs.Interrupt.{count_completion, lane_done, frame_done, window_opened, window_closed, opens_window, after_lane};
 ghost use Rattle.dshot_bank_spec.specs.Interrupt as Spec;
 ghost use Rattle.dshot_bank_spec.specs.Replies.{wrapping_add};
 ghost use Rattle.dshot_bank_spec.specs.With.{with_frames_completed};
-ghost use Rattle.dshot_bank_spec.specs.Calls.{on_dma_interrupt};
+ghost use Rattle.dshot_bank_spec.specs.Calls.{on_dma_interrupt_call};
 ghost use Rattle.dshot_bank_spec.specs.Steps.{step};
 ghost use Rattle.dshot_bank.specs.States.{motor_of, frame_of, stats_of, core_of, state_of, stepped};
 ghost use Rattle.dshot_bank.specs.Orders.{held, orders_of, Begins, Just};
@@ -153,7 +153,7 @@ impl Core {
     // done.
     fn after_lane(self, paused: Orders, turned: bool, turned_back: bool) -> Handled
         requires { (paused.count ≡ 1) × (paused.codes < 128) }
-        ensures { (motor : DshotMotor) → Begins paused motor → Interrupts result (afterLane 4 (motor_of motor) true false turned turned_back (core_of self)) }
+        ensures { (motor : DshotMotor) → Begins paused motor → Interrupts result (after_lane 4 (motor_of motor) true false turned turned_back (core_of self)) }
     {
         if self.frame.completion_mask != ALL_MOTORS_COMPLETE {
             return self.handled(DshotInterruptEvent::Completed, paused);
@@ -189,7 +189,7 @@ impl Core {
         turned: bool,
         turned_back: bool,
     ) -> Handled
-        ensures { Interrupts result (Spec.onDmaInterrupt 4 (motor_of motor) transfer_complete dma_error turned turned_back (core_of self)) }
+        ensures { Interrupts result (Spec.on_dma_interrupt 4 (motor_of motor) transfer_complete dma_error turned turned_back (core_of self)) }
     {
         let paused = Orders::paused(motor);
         if self.frame.faulted {
@@ -223,7 +223,7 @@ impl DshotBank {
         turned: bool,
         turned_back: bool,
     ) -> Interrupted
-        ensures b_value { (b : Buffers) → stepped (interrupt_answer result.answer (orders_of result.orders (replicate 4 0))) result.bank b ≡ step 4 (state_of self b) (on_dma_interrupt motor transfer_complete dma_error turned turned_back) }
+        ensures b_value { (b : Buffers) → stepped (interrupt_answer result.answer (orders_of result.orders (replicate 4 0))) result.bank b ≡ step 4 (state_of self b) (on_dma_interrupt_call motor transfer_complete dma_error turned turned_back) }
         ensures just { Just result.orders (replicate 4 0) (interrupt_answer result.answer (orders_of result.orders (replicate 4 0))) }
     {
         match DshotMotor::from_index(motor) {

@@ -5,7 +5,7 @@ use Rattle.dshot_reply_spec.specs.Answer.{Answer, given, refused, refusal_number
 use Rattle.dshot_reply_spec.proofs.Answered.{refused-so, given_so}
 use Rattle.dshot_spec.specs.Tabulate.{part}
 use Rattle.dshot_bank_spec.specs.Calls as Calls
-use Rattle.dshot_bank_spec.specs.Calls.{Call, State, Stepped, on_dma_interrupt}
+use Rattle.dshot_bank_spec.specs.Calls.{Call, State, Stepped, on_dma_interrupt_call}
 use Rattle.dshot_bank_spec.specs.Steps.{step}
 use Rattle.dshot_bank.proofs.ReplyLaws.{fit-both}
 use Rattle.dshot_bank.specs.declared.orders.Orders.{Orders}
@@ -46,7 +46,7 @@ after-so s old new call {x} e h =
     (λ j. record { state = x.state; sum = h j })
     ∙ (λ j. record { state = (e j).state; sum = told old (held (orders_in (e j).answer)) (duties_in (orders_in (e j).answer)) })
 
-pub interrupts-more : (i : ℕ) (r : Run) → interrupts (i + 1) r ≡ after (interrupts i r) (on_dma_interrupt (i % 4) true false true true)
+pub interrupts-more : (i : ℕ) (r : Run) → interrupts (i + 1) r ≡ after (interrupts i r) (on_dma_interrupt_call (i % 4) true false true true)
 unfolding interrupts
 interrupts-more i r = rw add-one
 

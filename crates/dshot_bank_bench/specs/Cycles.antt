@@ -8,7 +8,7 @@ use Rattle.dshot_reply_spec.specs.Value.{Reading, erpm, temp, volt, amp, debug, 
 use Rattle.dshot_spec.specs.Tabulate.{tabulate, part}
 use Rattle.dshot_bank_spec.specs.State.{Stats, LaneReply, Bank, Buffers}
 use Rattle.dshot_bank_spec.specs.Commands.{from_lanes}
-use Rattle.dshot_bank_spec.specs.Calls.{Call, State, enable_bidirectional_call, command_throttles_call, service_call, on_dma_interrupt}
+use Rattle.dshot_bank_spec.specs.Calls.{Call, State, enable_bidirectional_call, command_throttles_call, service_call, on_dma_interrupt_call}
 use Rattle.dshot_bank_spec.specs.Steps.{step}
 use Rattle.dshot_bank.specs.declared.orders.Orders.{Orders}
 use Rattle.dshot_bank.specs.Orders.{held, orders_in}
@@ -49,7 +49,7 @@ past r call = record { state = (step 4 r.state call).state; sum = r.sum }
 -- The run after i interrupts, of one lane after the other. Each transfer is complete. If the lanes are asked to turn, they turn.
 unfoldable pub interrupts : ℕ → Run → Run
 interrupts zero r = r
-interrupts (suc i) r = after (interrupts i r) (on_dma_interrupt (i % 4) true false true true)
+interrupts (suc i) r = after (interrupts i r) (on_dma_interrupt_call (i % 4) true false true true)
 
 -- the throttles of cycle n
 abbrev pub throttles_at : List ℕ → ℕ → List ℕ

@@ -5,7 +5,7 @@ ghost use Rattle.std.specs.Prelude.{◌≡◌, ◌*◌, ◌≤◌, true, false, 
 ghost use Rattle.dshot_reply_spec.specs.Answer.{refusal_number, filled};
 ghost use Rattle.dshot_spec.specs.Tabulate.{tabulate};
 ghost use Rattle.dshot_bank_spec.specs.State.{Buffers};
-ghost use Rattle.dshot_bank_spec.specs.Calls.{command_throttles_call, service_call, on_dma_interrupt};
+ghost use Rattle.dshot_bank_spec.specs.Calls.{command_throttles_call, service_call, on_dma_interrupt_call};
 ghost use Rattle.dshot_bank.specs.States.{stored_answer, bank_of};
 ghost use Rattle.dshot_bank_bench.specs.Cycles.{add_all, numbers_in, after, past, fit, speed, count_at, asked, first_of, second_of, counts_of};
 ghost use Rattle.dshot_bank_bench.specs.Runs.{run_of};
@@ -55,7 +55,7 @@ fn add_duties(sum: u32, duties: MotorValues) -> u32
 impl Run {
     // An interrupt of a lane. Its transfer is complete. If the lanes are asked to turn, they turn.
     fn interrupt(self, lane: usize) -> Self
-        ensures { (b : Buffers) → run_of result b ≡ after (run_of self b) (on_dma_interrupt lane true false true true) }
+        ensures { (b : Buffers) → run_of result b ≡ after (run_of self b) (on_dma_interrupt_call lane true false true true) }
     {
         let sum = self.sum;
         let done = self.bank.on_dma_interrupt(lane, true, false, true, true);

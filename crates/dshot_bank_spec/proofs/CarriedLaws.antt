@@ -16,7 +16,7 @@ use Rattle.dshot_bank_spec.specs.State.{Telemetry, Core, LaneReply, Buffers}
 use Rattle.dshot_bank_spec.specs.Commands.{MotorCommand, next_command_frame}
 use Rattle.dshot_bank_spec.specs.FrameSet.{as_lane, frame_set, next_set}
 use Rattle.dshot_bank_spec.specs.Send.{carry, frame_started}
-use Rattle.dshot_bank_spec.specs.Service.{serviceCore}
+use Rattle.dshot_bank_spec.specs.Service.{service_core}
 use Rattle.dshot_bank_spec.specs.SentClaim.{sending_core}
 use Rattle.dshot_bank_spec.proofs.LeaseEnds.{read_keeps}
 use Rattle.dshot_bank_spec.proofs.Service.{leased_core}
@@ -59,7 +59,7 @@ module _ (n : ℕ) (c : Core) where
 module _ (n now : ℕ) (taken present : List Bool) (masks samples : List ℕ) (replies : List LaneReply) (buffers : Buffers) (c : Core)
     (f : c.frame.faulted ≡ false) (idle : c.frame.busy ≡ false) (all : n ≤ position not taken) where
   abbrev left : Telemetry
-  left = (serviceCore n now taken present masks samples replies buffers c).bank.core.telemetry
+  left = (service_core n now taken present masks samples replies buffers c).bank.core.telemetry
 
   abbrev before : Core
   before = sending_core n now c

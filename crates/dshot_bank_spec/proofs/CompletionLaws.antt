@@ -12,7 +12,7 @@ use Rattle.dshot_bank_spec.specs.State.{Stats, Core}
 use Rattle.dshot_bank_spec.specs.Order.{Order, stop_frame, pause_and_clear, begin_receive, end_receive, latch_orders}
 use Rattle.dshot_bank_spec.specs.Replies.{wrapping_add}
 use Rattle.dshot_bank_spec.specs.Send.{latch_fault}
-use Rattle.dshot_bank_spec.specs.Interrupt.{InterruptEvent, completed, faulted, Interrupted, lane_done, frame_done, window_opened, window_closed, opens_window, afterLane}
+use Rattle.dshot_bank_spec.specs.Interrupt.{InterruptEvent, completed, faulted, Interrupted, lane_done, frame_done, window_opened, window_closed, opens_window, after_lane}
 use Rattle.dshot_bank_spec.proofs.LaneLaws.{on, off, either}
 
 -- ---- one lane: a frame is counted, and its window of samples is not. `on_dma_interrupt`, `if !self.receiving { .. }`
@@ -45,14 +45,14 @@ module _ (motor : ℕ) (c : Core) where
 
 module _ (n motor : ℕ) (complete error turned back : Bool) (c : Core) where
   abbrev answered : Interrupted
-  answered = afterLane n motor complete error turned back c
+  answered = after_lane n motor complete error turned back c
 
   abbrev answers : InterruptEvent → List Order → Core → Interrupted
   answers e l x = record { event = e; orders = pause_and_clear motor ∷ l; core = x }
 
   -- before the last lane nothing does
   pub not_last : (c.frame.completion_mask ≡ 2 ^ n - 1 → ⊥) → answered ≡ answers completed [] c
-  unfolding afterLane
+  unfolding after_lane
   not_last ne = sym (on _ _ (ap not (ne_eqb c.frame.completion_mask (2 ^ n - 1) ne)) refl)
 
   module _ (last : c.frame.completion_mask ≡ 2 ^ n - 1) where
@@ -62,13 +62,13 @@ module _ (n motor : ℕ) (complete error turned back : Bool) (c : Core) where
     -- in a bidirectional bank the last frame opens the receive window: document 01, "four completions open the receive window"
     pub opens : c.frame.bidirectional ≡ true → c.frame.receiving ≡ false → turned ≡ true
         → answered ≡ answers completed (begin_receive ∷ []) (window_opened c)
-    unfolding afterLane
+    unfolding after_lane
     opens b r t = sym (off _ _ is_last (on _ _ (sym (on _ _ b (sym (ap not r)))) (on _ _ t refl)))
 
     -- a lane that cannot turn around latches a fault
     pub opens_not : c.frame.bidirectional ≡ true → c.frame.receiving ≡ false → turned ≡ false
         → answered ≡ answers faulted (begin_receive ∷ latch_orders n) (latch_fault n false c)
-    unfolding afterLane
+    unfolding after_lane
     opens_not b r t = sym (off _ _ is_last (on _ _ (sym (on _ _ b (sym (ap not r)))) (off _ _ t refl)))
 
     -- the last window closes it: "four more close it"
@@ -77,16 +77,16 @@ module _ (n motor : ℕ) (complete error turned back : Bool) (c : Core) where
       opens-no-more = either (λ (x : Bool). x ≡ false) c.frame.bidirectional (ap not r) refl
 
       pub closes : back ≡ true → answered ≡ answers completed (end_receive ∷ []) (window_closed c)
-      unfolding afterLane
+      unfolding after_lane
       closes t = sym (off _ _ is_last (off _ _ opens-no-more (on _ _ r (on _ _ t refl))))
 
       pub closes-not : back ≡ false → answered ≡ answers faulted (end_receive ∷ latch_orders n) (latch_fault n false c)
-      unfolding afterLane
+      unfolding after_lane
       closes-not t = sym (off _ _ is_last (off _ _ opens-no-more (on _ _ r (off _ _ t refl))))
 
     -- without replies the last frame ends the set
     pub ends : c.frame.bidirectional ≡ false → c.frame.receiving ≡ false → answered ≡ answers completed (stop_frame ∷ []) (frame_done c)
-    unfolding afterLane
+    unfolding after_lane
     ends b r = sym (off _ _ is_last (off _ _ (sym (off _ _ b refl)) (off _ _ r refl)))
 
 -- ---- a window that opens or closes, and a set that ends

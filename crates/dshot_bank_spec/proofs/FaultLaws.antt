@@ -10,9 +10,9 @@ use Rattle.dshot_bank_spec.specs.Order.{pause_and_clear}
 use Rattle.dshot_bank_spec.specs.Commands.{command_stop, clear_request_sent}
 use Rattle.dshot_bank_spec.specs.Replies.{wrapping_add}
 use Rattle.dshot_bank_spec.specs.Send.{latch_fault}
-use Rattle.dshot_bank_spec.specs.Interrupt.{onDmaInterrupt}
+use Rattle.dshot_bank_spec.specs.Interrupt.{on_dma_interrupt}
 use Rattle.dshot_bank_spec.specs.Interrupt as Interrupt
-use Rattle.dshot_bank_spec.specs.Service.{serviceCore}
+use Rattle.dshot_bank_spec.specs.Service.{service_core}
 use Rattle.dshot_bank_spec.specs.Service as Service
 use Rattle.dshot_bank_spec.proofs.LaneLaws.{on, off}
 use Rattle.dshot_bank_spec.proofs.ThrottleLaws.{Stopped, zeros}
@@ -66,13 +66,13 @@ spurious-uncounted n c = refl
 module _ (c : Core) (f : c.frame.faulted ≡ true) where
   -- a service orders nothing and leaves replies and buffers; only the request that was sent is cleared
   pub faulted-serves : (n now : ℕ) (taken present : List Bool) (masks samples : List ℕ) (replies : List LaneReply) (buffers : Buffers)
-      → serviceCore n now taken present masks samples replies buffers c
+      → service_core n now taken present masks samples replies buffers c
       ≡ record { event = Service.faulted; orders = []; bank = record { core = clear_request_sent c; replies = replies }; buffers = buffers }
-  unfolding serviceCore clear_request_sent
+  unfolding service_core clear_request_sent
   faulted-serves n now taken present masks samples replies buffers = sym (on _ _ f refl)
 
   -- an interrupt is cleared at its stream, and changes nothing
   pub faulted-interrupts : (n motor : ℕ) (complete error turned back : Bool)
-      → onDmaInterrupt n motor complete error turned back c ≡ record { event = Interrupt.faulted; orders = pause_and_clear motor ∷ []; core = c }
-  unfolding onDmaInterrupt
+      → on_dma_interrupt n motor complete error turned back c ≡ record { event = Interrupt.faulted; orders = pause_and_clear motor ∷ []; core = c }
+  unfolding on_dma_interrupt
   faulted-interrupts n motor complete error turned back = sym (on _ _ f refl)

@@ -16,9 +16,9 @@ use Rattle.dshot_reply_spec.specs.Answer as Reply
 use Rattle.dshot_bank_spec.specs.State.{Core, LaneReply, Buffers}
 use Rattle.dshot_bank_spec.specs.Commands.{no_replies, enable_bidirectional, command_throttles, command_special, request_telemetry, clear_request_sent}
 use Rattle.dshot_bank_spec.specs.Replies.{window, read_window, count_reply, decode_replies}
-use Rattle.dshot_bank_spec.specs.Service.{Served, Skipped, skipped, unsent, service_busy, demand_expired, expire_lease, replies_read, read_replies, serviceCore}
+use Rattle.dshot_bank_spec.specs.Service.{Served, Skipped, skipped, unsent, service_busy, demand_expired, expire_lease, replies_read, read_replies, service_core}
 use Rattle.dshot_bank_spec.specs.Service as Service
-use Rattle.dshot_bank_spec.specs.Calls.{Call, enable_bidirectional_call, command_stop_call, command_throttles_call, command_special_call, request_telemetry_call, cancel_telemetry_request_call, take_telemetry_request_sent, service_call, on_dma_interrupt, take_replies, is_bidirectional, is_faulted, stats, requested_values_call, command_pending_call, reply_stats, sending, lend, done, refused, replied, reply_counts, State, Stepped, told, changed, commanded, served_step, replies_of, replies_taken, act}
+use Rattle.dshot_bank_spec.specs.Calls.{Call, enable_bidirectional_call, command_stop_call, command_throttles_call, command_special_call, request_telemetry_call, cancel_telemetry_request_call, take_telemetry_request_sent, service_call, on_dma_interrupt_call, take_replies, is_bidirectional, is_faulted, stats, requested_values_call, command_pending_call, reply_stats, sending, lend, done, refused, replied, reply_counts, State, Stepped, told, changed, commanded, served_step, replies_of, replies_taken, act}
 use Rattle.dshot_bank_spec.specs.Steps.{buffers_fit, length_refusal, port_refusal, refuse_or, step}
 use Rattle.dshot_bank_spec.specs.Lists.{trace, fresh}
 use Rattle.dshot_bank_spec.specs.Hide.{hide, hide_state, hide_replies, hide_taken, CapturesAlike, Alike, same, captured, none_left, one_more, AlikeAll, WireAlike, same_wired, wired, WireAlikeAll}
@@ -26,7 +26,7 @@ use Rattle.dshot_bank_spec.specs.Claims.{Isolated}
 use Rattle.dshot_bank_spec.proofs.HiddenLaws.{hidden-replies}
 use Rattle.dshot_bank_spec.proofs.LaneLaws.{set-tabulate, map-set}
 use Rattle.dshot_bank_spec.proofs.Refusals.{looks-leave-out}
-use Rattle.dshot_bank_spec.proofs.Service.{serviceSend, serviceOpen}
+use Rattle.dshot_bank_spec.proofs.Service.{service_send, service_open}
 
 -- ---- the windows
 
@@ -80,26 +80,26 @@ module _ (n lane now : ℕ) (taken p p' : List Bool) (m m' s s' : List ℕ) (r r
   unsent-alike : (k : Skipped) → Alikes (λ w x y z. unsent n now taken w x y z b k)
   unsent-alike k = λ j. unsent n now taken p m s (er j) b k
 
-  send-alike : (expired : Bool) (c : Core) → Alikes (λ w x y z. serviceSend n now taken w x y z b expired c)
+  send-alike : (expired : Bool) (c : Core) → Alikes (λ w x y z. service_send n now taken w x y z b expired c)
   send-alike expired c =
       let h = read_alike c.frame.replies_waiting in
       λ j. Service.sending n now taken p m s r b expired (replies_read c) (h j)
 
-  open-alike : (expired : Bool) (c : Core) → Alikes (λ w x y z. serviceOpen n now taken w x y z b expired c)
+  open-alike : (expired : Bool) (c : Core) → Alikes (λ w x y z. service_open n now taken w x y z b expired c)
   open-alike expired c =
       let k = service_busy n now expired c in
       picked (hide_served lane) c.frame.busy (unsent n now taken p m s r b k) (unsent n now taken p' m' s' r' b k)
-      (serviceSend n now taken p m s r b expired c) (serviceSend n now taken p' m' s' r' b expired c) (unsent-alike k) (send-alike expired c)
+      (service_send n now taken p m s r b expired c) (service_send n now taken p' m' s' r' b expired c) (unsent-alike k) (send-alike expired c)
 
-  service-alike : (c : Core) → Alikes (λ w x y z. serviceCore n now taken w x y z b c)
-  unfolding serviceCore
+  service-alike : (c : Core) → Alikes (λ w x y z. service_core n now taken w x y z b c)
+  unfolding service_core
   service-alike c =
       let c₀ = clear_request_sent c in
       let k = skipped Service.faulted [] c₀ in
       let expired = demand_expired now c₀.demand in
       let c₁ = expire_lease n expired c₀ in
       picked (hide_served lane) c₀.frame.faulted (unsent n now taken p m s r b k) (unsent n now taken p' m' s' r' b k)
-      (serviceOpen n now taken p m s r b expired c₁) (serviceOpen n now taken p' m' s' r' b expired c₁) (unsent-alike k) (open-alike expired c₁)
+      (service_open n now taken p m s r b expired c₁) (service_open n now taken p' m' s' r' b expired c₁) (unsent-alike k) (open-alike expired c₁)
 
 -- ---- captures that are the same
 
@@ -139,7 +139,7 @@ module _ (n lane : ℕ) (s s' : State) (e : hide_state lane s ≡ hide_state lan
       let r' = s'.bank.replies in (
         λ j. length_refusal (pick (buffers_fit n (e j).buffers) (eqb (a.long j) (160 * n)) false) 0,
         ap (served_step s) (service-alike n lane now taken p p' m m' x x' r r' s.buffers old ep a s.bank.core)
-            ∙ ap (λ (z : State). hide lane (served_step z (serviceCore n now taken p' m' x' r' z.buffers z.bank.core))) e,
+            ∙ ap (λ (z : State). hide lane (served_step z (service_core n now taken p' m' x' r' z.buffers z.bank.core))) e,
       )
 
   -- a list of the lanes' fields, with the lane hidden
@@ -179,7 +179,7 @@ module _ (n lane : ℕ) (s s' : State) (e : hide_state lane s ≡ hide_state lan
   same_alike cancel_telemetry_request_call = (refl, act-hidden cancel_telemetry_request_call)
   same_alike take_telemetry_request_sent = (refl, act-hidden take_telemetry_request_sent)
   same_alike (service_call now taken p m x) = serve-alike now taken p p (λ k ne. refl) same-captures
-  same_alike (on_dma_interrupt motor a b c d) = (refl, act-hidden (on_dma_interrupt motor a b c d))
+  same_alike (on_dma_interrupt_call motor a b c d) = (refl, act-hidden (on_dma_interrupt_call motor a b c d))
   same_alike take_replies = (refl, take-alike)
   same_alike is_bidirectional = (refl, act-hidden is_bidirectional)
   same_alike is_faulted = (refl, act-hidden is_faulted)

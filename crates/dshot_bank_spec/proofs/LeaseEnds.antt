@@ -16,7 +16,7 @@ use Rattle.dshot_bank_spec.specs.With.{with_frame, with_replies_held, with_repli
 use Rattle.dshot_bank_spec.specs.Commands.{MotorCommand, any_requested, command_stop, clear_request_sent, next_of_run, next_command_frame}
 use Rattle.dshot_bank_spec.specs.FrameSet.{frame_set}
 use Rattle.dshot_bank_spec.specs.Send.{Sent, latch_fault, exchange_refused, frame_started, exchange_buffers, send_requested}
-use Rattle.dshot_bank_spec.specs.Service.{faulted, Skipped, Served, demand_expired, expire_lease, service_busy, replies_read, serviceCore}
+use Rattle.dshot_bank_spec.specs.Service.{faulted, Skipped, Served, demand_expired, expire_lease, service_busy, replies_read, service_core}
 use Rattle.dshot_bank_spec.specs.SentClaim.{sending_core}
 use Rattle.dshot_bank_spec.specs.LeaseClaim.{no_throttle, LeaseEnds}
 use Rattle.dshot_bank_spec.proofs.LaneLaws.{either}
@@ -91,8 +91,8 @@ module _ (n now : ℕ) (c : Core) (e : demand_expired now c.demand ≡ true) (ta
   unfolding command_stop
   same_stop x k = λ j. record { requested_values = replicate n 0; lease_started_ms = k j; lease_duration_ms = none }
 
-  left : (serviceCore n now taken present masks samples replies buffers c).bank.core.demand ≡ (command_stop n c).demand
-  unfolding serviceCore clear_request_sent ended
+  left : (service_core n now taken present masks samples replies buffers c).bank.core.demand ≡ (command_stop n c).demand
+  unfolding service_core clear_request_sent ended
   left =
       otherwise ends c.frame.faulted (record { event = faulted; orders = []; bank = record { core = clear_request_sent c; replies = replies }; buffers = buffers }) f
       (either ends (ended n now c).frame.busy

@@ -15,11 +15,11 @@ use Rattle.dshot_bank_spec.specs.State.{Demand, Core, LaneReply, Buffers}
 use Rattle.dshot_bank_spec.specs.Commands.{command_stop, clear_request_sent}
 use Rattle.dshot_bank_spec.specs.Replies.{wrapping_add}
 use Rattle.dshot_bank_spec.specs.Send.{Sent, latch_fault, exchange_refused, frame_started, exchange_buffers, send_requested}
-use Rattle.dshot_bank_spec.specs.Service.{Served, Skipped, unsent, is_some_and_expired, demand_expired, expire_lease, service_busy, replies_read, serviceCore}
+use Rattle.dshot_bank_spec.specs.Service.{Served, Skipped, unsent, is_some_and_expired, demand_expired, expire_lease, service_busy, replies_read, service_core}
 use Rattle.dshot_bank_spec.specs.SentClaim.{sending_core}
 use Rattle.dshot_bank_spec.proofs.LaneLaws.{off, either, under}
 use Rattle.dshot_bank_spec.proofs.LeaseEnds.{read_keeps}
-use Rattle.dshot_bank_spec.proofs.Service.{leased_core, serviceSend}
+use Rattle.dshot_bank_spec.proofs.Service.{leased_core, service_send}
 
 -- ---- when a demand has expired: `lease_expired` in `service`
 
@@ -68,14 +68,14 @@ send-count n now taken c = either (λ (s : Sent). s.core.stats.lease_expiries �
 module _ (n now : ℕ) (taken present : List Bool) (masks samples : List ℕ) (replies : List LaneReply) (buffers : Buffers) (c : Core) where
   -- a service that finds no fault counts an expiry, whatever it answers
   pub expiry-counted : c.frame.faulted ≡ false
-      → (serviceCore n now taken present masks samples replies buffers c).bank.core.stats.lease_expiries
+      → (service_core n now taken present masks samples replies buffers c).bank.core.stats.lease_expiries
       ≡ pick (demand_expired now c.demand) (wrapping_add c.stats.lease_expiries) c.stats.lease_expiries
-  unfolding serviceCore clear_request_sent
+  unfolding service_core clear_request_sent
   expiry-counted f =
       let c₁ = leased_core n now c in
       let expired = demand_expired now c.demand in
       let kept : Served → Type 0 = λ z. z.bank.core.stats.lease_expiries ≡ c₁.stats.lease_expiries in
       let both = either kept c₁.frame.busy {x = unsent n now taken present masks samples replies buffers (service_busy n now expired c₁)}
-      {y = serviceSend n now taken present masks samples replies buffers expired c₁} (busy-count n now expired c₁)
+      {y = service_send n now taken present masks samples replies buffers expired c₁} (busy-count n now expired c₁)
       (send-count n now taken (replies_read c₁) ∙ read_keeps (λ (x : Core). x.stats.lease_expiries) (λ q x. refl) c₁) in
       subst kept (off _ _ f refl) both ∙ leased-count n now c

@@ -11,7 +11,7 @@ use lib.ListN.{length}
 use Rattle.dshot_reply_spec.proofs.Choice.{not-second}
 use Rattle.dshot_reply_spec.specs.Answer.{pick}
 use Rattle.dshot_spec.specs.Command.{CommandRun}
-use Rattle.dshot_bank_spec.specs.Calls.{command_special_call, request_telemetry_call, on_dma_interrupt, service_call, sending, refused, State, Stepped, told, act}
+use Rattle.dshot_bank_spec.specs.Calls.{command_special_call, request_telemetry_call, on_dma_interrupt_call, service_call, sending, refused, State, Stepped, told, act}
 use Rattle.dshot_bank_spec.specs.Steps.{slots_fit, service_fits, length_refusal, lane_refusal, port_refusal, refuse_or, step}
 use Rattle.dshot_bank_spec.proofs.LaneLaws.{on}
 
@@ -68,18 +68,18 @@ module _ (n : ℕ) (s : State) where
   request-no-lane motor h = lane-missing motor h (act n s (request_telemetry_call motor))
 
   pub interrupt-no-lane : (motor : ℕ) (complete error turned back : Bool) → n ≤ motor
-      → step n s (on_dma_interrupt motor complete error turned back) ≡ told s (refused 12)
+      → step n s (on_dma_interrupt_call motor complete error turned back) ≡ told s (refused 12)
   unfolding step port_refusal
-  interrupt-no-lane motor complete error turned back h = lane-missing motor h (act n s (on_dma_interrupt motor complete error turned back))
+  interrupt-no-lane motor complete error turned back h = lane-missing motor h (act n s (on_dma_interrupt_call motor complete error turned back))
 
 -- ---- lengths
 
 module _ (n : ℕ) (s : State) where
-  abbrev firstLength : ℕ
-  firstLength = length s.buffers.first
+  abbrev first_length : ℕ
+  first_length = length s.buffers.first
 
-  abbrev secondLength : ℕ
-  secondLength = length s.buffers.second
+  abbrev second_length : ℕ
+  second_length = length s.buffers.second
 
   -- the lengths are looked at first: document 01, "13, 12, then state"
   fitting : (fit : Bool) (k : ℕ) (r : Stepped) → fit ≡ true → refuse_or s (length_refusal fit k) r ≡ refuse_or s k r
@@ -90,39 +90,39 @@ module _ (n : ℕ) (s : State) where
 
   module _ (motor : ℕ) where
     -- a view with a buffer of another length, even of a lane that there is not
-    pub view-unfit : (SlotsFit n firstLength secondLength → ⊥) → step n s (sending motor) ≡ told s (refused 13)
+    pub view-unfit : (SlotsFit n first_length second_length → ⊥) → step n s (sending motor) ≡ told s (refused 13)
     unfolding step port_refusal
     view-unfit h =
-        unfitting (slots_fit n firstLength secondLength) (lane_refusal n motor) (act n s (sending motor))
-        (fails (slots_fit n firstLength secondLength) (fit-slots n firstLength secondLength) h)
+        unfitting (slots_fit n first_length second_length) (lane_refusal n motor) (act n s (sending motor))
+        (fails (slots_fit n first_length second_length) (fit-slots n first_length second_length) h)
 
     -- then a lane that there is not
-    pub view-no-lane : SlotsFit n firstLength secondLength → n ≤ motor → step n s (sending motor) ≡ told s (refused 12)
+    pub view-no-lane : SlotsFit n first_length second_length → n ≤ motor → step n s (sending motor) ≡ told s (refused 12)
     unfolding step port_refusal
     view-no-lane h l =
-        fitting (slots_fit n firstLength secondLength) (lane_refusal n motor) (act n s (sending motor)) (slots-fit n firstLength secondLength h)
+        fitting (slots_fit n first_length second_length) (lane_refusal n motor) (act n s (sending motor)) (slots-fit n first_length second_length h)
         ∙ lane-missing n s motor l (act n s (sending motor))
 
     -- else it is not refused
-    pub view-acts : SlotsFit n firstLength secondLength → motor < n → step n s (sending motor) ≡ act n s (sending motor)
+    pub view-acts : SlotsFit n first_length second_length → motor < n → step n s (sending motor) ≡ act n s (sending motor)
     unfolding step port_refusal
     view-acts h l =
-        fitting (slots_fit n firstLength secondLength) (lane_refusal n motor) (act n s (sending motor)) (slots-fit n firstLength secondLength h)
+        fitting (slots_fit n first_length second_length) (lane_refusal n motor) (act n s (sending motor)) (slots-fit n first_length second_length h)
         ∙ lane-there n s motor l (act n s (sending motor))
 
   module _ (now : ℕ) (taken present : List Bool) (masks samples : List ℕ) where
     -- a service with a buffer or captures of another length
-    pub service-unfit : (ServiceFit n firstLength secondLength (length samples) → ⊥)
+    pub service-unfit : (ServiceFit n first_length second_length (length samples) → ⊥)
         → step n s (service_call now taken present masks samples) ≡ told s (refused 13)
     unfolding step port_refusal
     service-unfit h =
-        unfitting (service_fits n firstLength secondLength (length samples)) 0 (act n s (service_call now taken present masks samples))
-        (fails (service_fits n firstLength secondLength (length samples)) (fit-service n firstLength secondLength (length samples)) h)
+        unfitting (service_fits n first_length second_length (length samples)) 0 (act n s (service_call now taken present masks samples))
+        (fails (service_fits n first_length second_length (length samples)) (fit-service n first_length second_length (length samples)) h)
 
     -- else it is not refused
-    pub service-acts : ServiceFit n firstLength secondLength (length samples)
+    pub service-acts : ServiceFit n first_length second_length (length samples)
         → step n s (service_call now taken present masks samples) ≡ act n s (service_call now taken present masks samples)
     unfolding step port_refusal
     service-acts h =
-        fitting (service_fits n firstLength secondLength (length samples)) 0 (act n s (service_call now taken present masks samples))
-        (service-fit n firstLength secondLength (length samples) h)
+        fitting (service_fits n first_length second_length (length samples)) 0 (act n s (service_call now taken present masks samples))
+        (service-fit n first_length second_length (length samples) h)

@@ -11,7 +11,7 @@ use Rattle.dshot_reply_spec.specs.Answer.{pick, given}
 use Rattle.dshot_reply_spec.specs.Answer as Reply
 use Rattle.dshot_bank_spec.specs.State.{Core}
 use Rattle.dshot_bank_spec.specs.Commands.{enable_bidirectional, command_throttles, command_special, request_telemetry}
-use Rattle.dshot_bank_spec.specs.Calls.{Call, enable_bidirectional_call, command_stop_call, command_throttles_call, command_special_call, request_telemetry_call, cancel_telemetry_request_call, take_telemetry_request_sent, service_call, on_dma_interrupt, take_replies, is_bidirectional, is_faulted, stats, requested_values_call, command_pending_call, reply_stats, sending, lend, refused, State, Stepped, told, commanded, act}
+use Rattle.dshot_bank_spec.specs.Calls.{Call, enable_bidirectional_call, command_stop_call, command_throttles_call, command_special_call, request_telemetry_call, cancel_telemetry_request_call, take_telemetry_request_sent, service_call, on_dma_interrupt_call, take_replies, is_bidirectional, is_faulted, stats, requested_values_call, command_pending_call, reply_stats, sending, lend, refused, State, Stepped, told, commanded, act}
 use Rattle.dshot_bank_spec.specs.Steps.{port_refusal, step}
 use Rattle.dshot_bank_spec.specs.Lists.{trace, run, source_run, is_look, acting, acting_of, is_refused, accepted, accepted_of}
 use Rattle.dshot_bank_spec.specs.Claims.{LooksKeep, RefusalsKeep, RefusalsLeaveOut}
@@ -37,7 +37,7 @@ act-keeps n s (request_telemetry_call motor) = commanded-keeps s (request_teleme
 act-keeps n s cancel_telemetry_request_call = λ e. cc
 act-keeps n s take_telemetry_request_sent = λ e. cc
 act-keeps n s (service_call now taken present masks samples) = λ e. cc
-act-keeps n s (on_dma_interrupt motor complete error turned back) = λ e. cc
+act-keeps n s (on_dma_interrupt_call motor complete error turned back) = λ e. cc
 act-keeps n s take_replies = λ e. cc
 act-keeps n s is_bidirectional = λ e. refl
 act-keeps n s is_faulted = λ e. refl
@@ -68,7 +68,7 @@ act-looks n s (request_telemetry_call motor) e = cc
 act-looks n s cancel_telemetry_request_call e = cc
 act-looks n s take_telemetry_request_sent e = cc
 act-looks n s (service_call now taken present masks samples) e = cc
-act-looks n s (on_dma_interrupt motor complete error turned back) e = cc
+act-looks n s (on_dma_interrupt_call motor complete error turned back) e = cc
 act-looks n s take_replies e = cc
 act-looks n s is_bidirectional e = refl
 act-looks n s is_faulted e = refl

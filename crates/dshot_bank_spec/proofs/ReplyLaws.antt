@@ -14,7 +14,7 @@ use Rattle.dshot_reply_spec.specs.Value.{Reading}
 use Rattle.dshot_bank_spec.specs.State.{Core, LaneReply, Buffers}
 use Rattle.dshot_bank_spec.specs.Commands.{no_replies}
 use Rattle.dshot_bank_spec.specs.Replies.{wrapping_add, saturating_add, count_reply}
-use Rattle.dshot_bank_spec.specs.Service.{read_replies, serviceCore}
+use Rattle.dshot_bank_spec.specs.Service.{read_replies, service_core}
 use Rattle.dshot_bank_spec.specs.Calls.{take_replies, replied, State, replies_of}
 use Rattle.dshot_bank_spec.specs.Steps.{port_refusal, step}
 use Rattle.dshot_bank_spec.proofs.LaneLaws.{on, off}
@@ -53,7 +53,7 @@ module _ (l : LaneReply) where
 
 module _ (n now : ℕ) (taken present : List Bool) (masks samples : List ℕ) (replies : List LaneReply) (buffers : Buffers) (c : Core) where
   abbrev after : List LaneReply
-  after = (serviceCore n now taken present masks samples replies buffers c).bank.replies
+  after = (service_core n now taken present masks samples replies buffers c).bank.replies
 
   reads-by : (b : Bool) → pick c.frame.faulted false (pick c.frame.busy false c.frame.replies_waiting) ≡ b
       → after ≡ read_replies n b present masks samples replies

@@ -14,7 +14,7 @@ use Rattle.dshot_bank_spec.specs.Lanes.{position}
 use Rattle.dshot_bank_spec.specs.State.{Demand, MotorRun, Core, LaneReply, Buffers}
 use Rattle.dshot_bank_spec.specs.Commands.{NextFrame, command_stop, next_of, next_of_run, next_command_frame}
 use Rattle.dshot_bank_spec.specs.Send.{Sent, latch_fault, exchange_refused, frame_started, exchange_buffers, send_requested}
-use Rattle.dshot_bank_spec.specs.Service.{demand_expired, serviceCore}
+use Rattle.dshot_bank_spec.specs.Service.{demand_expired, service_core}
 use Rattle.dshot_bank_spec.specs.SentClaim.{sending_core}
 use Rattle.dshot_bank_spec.proofs.LaneLaws.{on, off, either}
 use Rattle.dshot_bank_spec.proofs.LeaseEnds.{read_keeps}
@@ -60,7 +60,7 @@ lease-keeps-run n now c = read_keeps (λ (x : Core). x.command_sequence) (λ f x
 module _ (n now : ℕ) (taken present : List Bool) (masks samples : List ℕ) (replies : List LaneReply) (buffers : Buffers) (c : Core)
     (f : c.frame.faulted ≡ false) (idle : c.frame.busy ≡ false) where
   abbrev after : Option MotorRun
-  after = (serviceCore n now taken present masks samples replies buffers c).bank.core.command_sequence
+  after = (service_core n now taken present masks samples replies buffers c).bank.core.command_sequence
 
   -- If a throttle demand is in force when a frame is about to start, it cancels a run. Document 01: "only if a frame starts while it is in force".
   pub demand-cancels : demand_expired now c.demand ≡ false

@@ -16,12 +16,12 @@ use Rattle.dshot_bank_spec.specs.Commands.{command_stop, clear_request_sent, nex
 use Rattle.dshot_bank_spec.specs.FrameSet.{next_set, packets_sent, first_duties}
 use Rattle.dshot_bank_spec.specs.Replies.{wrapping_add}
 use Rattle.dshot_bank_spec.specs.Send.{turn_marks, Sent, latch_fault, exchange_refused, frame_started, exchange_buffers, send_requested, sent_buffers}
-use Rattle.dshot_bank_spec.specs.Service.{frame_started_event, lease_expired_event, faulted, Served, sent_event, demand_expired, replies_read, serviceCore}
+use Rattle.dshot_bank_spec.specs.Service.{frame_started_event, lease_expired_event, faulted, Served, sent_event, demand_expired, replies_read, service_core}
 use Rattle.dshot_bank_spec.specs.SentClaim.{sending_core}
 use Rattle.dshot_bank_spec.proofs.LaneLaws.{on, off, either}
 use Rattle.dshot_bank_spec.proofs.FaultLaws.{Latched, latch-clears}
 use Rattle.dshot_bank_spec.proofs.LeaseEnds.{read_keeps}
-use Rattle.dshot_bank_spec.proofs.Service.{leased_core, leased-frame, serviceSend, service-sends}
+use Rattle.dshot_bank_spec.proofs.Service.{leased_core, leased-frame, service_send, service-sends}
 use Rattle.dshot_bank_spec.proofs.ServiceLaws.{leased-counts}
 
 -- the counts when a service begins to send, except that of expiries
@@ -33,12 +33,12 @@ sending-counts g n now c h = read_keeps (λ (x : Core). g x.stats) (λ f x. refl
 
 module _ (n now : ℕ) (taken : List Bool) (c : Core) where
   -- what it sends is settled before the first exchange, and so is what is left of a run
-  abbrev startedCore : Core
-  startedCore = frame_started n now (next_set n c).telemetry_request (with_command_sequence (next_command_frame c).left c)
+  abbrev started_core : Core
+  started_core = frame_started n now (next_set n c).telemetry_request (with_command_sequence (next_command_frame c).left c)
 
   -- every lane takes its buffer
   pub send-starts : n ≤ position not taken
-      → send_requested n now taken c ≡ record { started = true; orders = start_orders n (first_duties n c.timing (packets_sent n c)); core = startedCore }
+      → send_requested n now taken c ≡ record { started = true; orders = start_orders n (first_duties n c.timing (packets_sent n c)); core = started_core }
   unfolding send_requested exchange_buffers
   send-starts h = sym (off _ _ (le-ltb (position not taken) n h) refl)
 
@@ -90,12 +90,12 @@ mark-unturned n k i marks l h = get_d_tabulate _ n i false l ∙ sym (off _ _ (l
 module _ (n now : ℕ) (taken present : List Bool) (masks samples : List ℕ) (replies : List LaneReply) (buffers : Buffers) (c : Core)
     (f : c.frame.faulted ≡ false) (idle : c.frame.busy ≡ false) where
   abbrev served : Served
-  served = serviceCore n now taken present masks samples replies buffers c
+  served = service_core n now taken present masks samples replies buffers c
 
   abbrev sent : Sent
   sent = send_requested n now taken (sending_core n now c)
 
-  sends : serviceSend n now taken present masks samples replies buffers (demand_expired now (clear_request_sent c).demand) (leased_core n now c) ≡ served
+  sends : service_send n now taken present masks samples replies buffers (demand_expired now (clear_request_sent c).demand) (leased_core n now c) ≡ served
   sends = service-sends n now taken present masks samples replies buffers c f idle
 
   -- its core is the one that sending leaves

@@ -26,14 +26,14 @@ use Rattle.dshot_bank_spec.specs.Order.{Order, exchange_buffer, start_dma, start
 use Rattle.dshot_bank_spec.specs.Commands.{clear_request_sent, next_command_frame}
 use Rattle.dshot_bank_spec.specs.FrameSet.{next_set, kind_sent, packets_sent, first_duties, encode_lanes}
 use Rattle.dshot_bank_spec.specs.Send.{turn_marks, Sent, exchange_refused, frame_started, exchange_buffers, send_requested, sent_buffers}
-use Rattle.dshot_bank_spec.specs.Service.{Served, Skipped, skipped, unsent, faulted, service_busy, demand_expired, replies_read, read_replies, serviceCore}
+use Rattle.dshot_bank_spec.specs.Service.{Served, Skipped, skipped, unsent, faulted, service_busy, demand_expired, replies_read, read_replies, service_core}
 use Rattle.dshot_bank_spec.specs.Calls.{service_call, sending, serviced, slots, State, Stepped, told, sequence_sent}
 use Rattle.dshot_bank_spec.specs.Steps.{buffers_fit, length_refusal, lane_refusal, port_refusal, refuse_or, step}
 use Rattle.dshot_bank_spec.specs.Lists.{is_refused}
 use Rattle.dshot_bank_spec.specs.SentClaim.{sending_core, ReadsBack, SentReadsBack}
 use Rattle.dshot_bank_spec.proofs.LaneLaws.{on, off, either, under}
 use Rattle.dshot_bank_spec.proofs.Refusals.{accepted-acts, accepted-port}
-use Rattle.dshot_bank_spec.proofs.Service.{leased_core, leased-frame, leased-keeps, serviceSend, serviceOpen, service-sends}
+use Rattle.dshot_bank_spec.proofs.Service.{leased_core, leased-frame, leased-keeps, service_send, service_open, service-sends}
 use Rattle.dshot_bank_spec.proofs.Written.{lane_slots, spare, written}
 
 -- ---- the packet and the sequence of a lane
@@ -91,8 +91,8 @@ seen-answer n lane s h f =
 
 module _ (n now : ℕ) (c : Core) (b : Buffers) (replies : List LaneReply) where
   -- what a frame set that starts leaves
-  abbrev sentState : State
-  sentState = record {
+  abbrev sent_state : State
+  sent_state = record {
     bank = record {
       core = frame_started n now (next_set n c).telemetry_request (with_command_sequence (next_command_frame c).left c);
       replies = replies;
@@ -101,13 +101,13 @@ module _ (n now : ℕ) (c : Core) (b : Buffers) (replies : List LaneReply) where
   }
 
   lane-seen : ((x : Bool) → length (spare x b) ≡ 16 * n) → (lane : ℕ) → lane < n
-      → (step n sentState (sending lane)).answer ≡ slots (sequence_at n c lane).slots
+      → (step n sent_state (sending lane)).answer ≡ slots (sequence_at n c lane).slots
   unfolding frame_started encode_lanes
   lane-seen h lane l =
       let marks = c.frame.in_second in
-      let bs = sentState.buffers in
+      let bs = sent_state.buffers in
       let w = written n (λ i. get_or marks i false) (λ i. (sequence_at n c i).slots) (λ i. sequence-slots _ _) b h n (omega arith) in
-      sym (seen-answer n lane sentState l (fits n bs w.long))
+      sym (seen-answer n lane sent_state l (fits n bs w.long))
       ∙ ap slots (ap (λ (x : Bool). lane_slots lane (pick x bs.second bs.first)) (turned n lane marks l)
       ∙ ap (lane_slots lane) (seen-spare (get_or marks lane false) bs)
       ∙ w.holds lane l)
@@ -179,19 +179,19 @@ exchange-tests {duties} n now taken request first c h =
 
 module _ (n now : ℕ) (taken present : List Bool) (masks samples : List ℕ) (replies : List LaneReply) (b : Buffers) (c : Core) where
   -- no fault, no frame in flight, and every lane took its buffer
-  sent-tests : {duties : List ℕ} → last_duties none (serviceCore n now taken present masks samples replies b c).orders ≡ some duties
+  sent-tests : {duties : List ℕ} → last_duties none (service_core n now taken present masks samples replies b c).orders ≡ some duties
       → (c.frame.faulted ≡ false) × (c.frame.busy ≡ false) × (ltb (position not taken) n ≡ false)
       × (first_duties n (sending_core n now c).timing (packets_sent n (sending_core n now c)) ≡ duties)
-  unfolding serviceCore clear_request_sent send_requested
+  unfolding service_core clear_request_sent send_requested
   sent-tests h =
       let c₀ = clear_request_sent c in
       let c₁ = leased_core n now c in
       let expired = demand_expired now c₀.demand in
       let idle = unsent n now taken present masks samples replies b in
       let p = second-starts (λ (z : Served). z.orders) c.frame.faulted (idle (skipped faulted [] c₀))
-      (serviceOpen n now taken present masks samples replies b expired c₁) h refl in
+      (service_open n now taken present masks samples replies b expired c₁) h refl in
       let q = second-starts (λ (z : Served). z.orders) c₁.frame.busy (idle (service_busy n now expired c₁))
-      (serviceSend n now taken present masks samples replies b expired c₁) p.1 (busy-last n now expired c₁) in
+      (service_send n now taken present masks samples replies b expired c₁) p.1 (busy-last n now expired c₁) in
       let r = exchange-tests n now taken _ _ _ q.1 in
       (p.0, sym (ap (λ (f : Frame). f.busy) (leased-frame n now c)) ∙ q.0, r.0, r.1)
 
@@ -200,7 +200,7 @@ module _ (n now : ℕ) (taken present : List Bool) (masks samples : List ℕ) (r
   decoded = read_replies n (leased_core n now c).frame.replies_waiting present masks samples replies
 
   sent-state : c.frame.faulted ≡ false → c.frame.busy ≡ false → ltb (position not taken) n ≡ false
-      → sentState n now (sending_core n now c) b decoded ≡ record { bank = (serviceCore n now taken present masks samples replies b c).bank; buffers = (serviceCore n now taken present masks samples replies b c).buffers }
+      → sent_state n now (sending_core n now c) b decoded ≡ record { bank = (service_core n now taken present masks samples replies b c).bank; buffers = (service_core n now taken present masks samples replies b c).buffers }
   unfolding send_requested exchange_buffers
   sent-state f i k =
       let sent = sent_buffers n (sending_core n now c) b in
@@ -230,7 +230,7 @@ sending-timing n now c =
 -- a state that a frame set leaves, with the duties that it orders
 started-reads : (n : ℕ) (s : State) (now : ℕ) (replies : List LaneReply) (lane : ℕ)
     → buffers_fit n s.buffers ≡ true → (s.bank.core.timing.zero_high ≡ s.bank.core.timing.one_high → ⊥) → lane < n
-    → ReadsBack n s (sentState n now (sending_core n now s.bank.core) s.buffers replies) now
+    → ReadsBack n s (sent_state n now (sending_core n now s.bank.core) s.buffers replies) now
     (first_duties n (sending_core n now s.bank.core).timing (packets_sent n (sending_core n now s.bank.core))) lane
 unfolding frame_started
 started-reads n s now replies lane f ne l =
@@ -249,7 +249,7 @@ sent-reads-back n s now taken present masks samples e orders in_second duties h 
     let call = service_call now taken present masks samples in
     let accepted : is_refused (step n s call).answer ≡ false = ap is_refused h in
     let acts = accepted-acts n s call accepted in
-    let z = serviceCore n now taken present masks samples s.bank.replies s.buffers c in
+    let z = service_core n now taken present masks samples s.bank.replies s.buffers c in
     let same : serviced z.event z.orders c.frame.in_second ≡ serviced e (orders ++ (start_frame duties ∷ [])) in_second = sym (ap (λ (r : Stepped). r.answer) acts) ∙ h in
     let ends : z.orders ≡ orders ++ (start_frame duties ∷ []) = cc same in
     let t = sent-tests n now taken present masks samples s.bank.replies s.buffers c

@@ -8,7 +8,7 @@ use Rattle.dshot_reply_spec.specs.Answer.{pick}
 use Rattle.dshot_bank_spec.specs.State.{Demand, Telemetry, Frame, Stats, Core, LaneReply, Buffers}
 use Rattle.dshot_bank_spec.specs.With.{with_demand, with_telemetry, with_stats}
 use Rattle.dshot_bank_spec.specs.Commands.{command_stop, clear_request_sent}
-use Rattle.dshot_bank_spec.specs.Service.{Served, unsent, sending, service_busy, demand_expired, expire_lease, replies_read, read_replies, serviceCore}
+use Rattle.dshot_bank_spec.specs.Service.{Served, unsent, sending, service_busy, demand_expired, expire_lease, replies_read, read_replies, service_core}
 use Rattle.dshot_bank_spec.proofs.LaneLaws.{off, either}
 
 -- the core after the lease was looked at
@@ -26,19 +26,19 @@ leased-frame n now c = leased-keeps (λ (x : Core). x.frame) n now c (λ d t k. 
 
 module _ (n now : ℕ) (taken present : List Bool) (masks samples : List ℕ) (replies : List LaneReply) (buffers : Buffers) where
   -- no frame is in flight
-  abbrev pub serviceSend : Bool → Core → Served
-  serviceSend expired c =
+  abbrev pub service_send : Bool → Core → Served
+  service_send expired c =
       sending n now taken present masks samples replies buffers expired (replies_read c)
       (read_replies n c.frame.replies_waiting present masks samples replies)
 
   -- there is no fault
-  abbrev pub serviceOpen : Bool → Core → Served
-  serviceOpen expired c =
-      pick c.frame.busy (unsent n now taken present masks samples replies buffers (service_busy n now expired c)) (serviceSend expired c)
+  abbrev pub service_open : Bool → Core → Served
+  service_open expired c =
+      pick c.frame.busy (unsent n now taken present masks samples replies buffers (service_busy n now expired c)) (service_send expired c)
 
   -- without a fault, and with no frame in flight, a service sends
   pub service-sends : (c : Core) → c.frame.faulted ≡ false → c.frame.busy ≡ false
-      → serviceSend (demand_expired now (clear_request_sent c).demand) (leased_core n now c)
-      ≡ serviceCore n now taken present masks samples replies buffers c
-  unfolding serviceCore clear_request_sent
+      → service_send (demand_expired now (clear_request_sent c).demand) (leased_core n now c)
+      ≡ service_core n now taken present masks samples replies buffers c
+  unfolding service_core clear_request_sent
   service-sends c f b = off _ _ f (off _ _ (ap (λ (q : Frame). q.busy) (leased-frame n now c) ∙ b) refl)

@@ -14,7 +14,7 @@ use Rattle.dshot_bank_spec.specs.Order.{latch_orders}
 use Rattle.dshot_bank_spec.specs.Commands.{command_stop, clear_request_sent}
 use Rattle.dshot_bank_spec.specs.Replies.{wrapping_add}
 use Rattle.dshot_bank_spec.specs.Send.{latch_fault}
-use Rattle.dshot_bank_spec.specs.Service.{ServiceEvent, busy, lease_expired_event, faulted, Served, Skipped, unsent, skipped, demand_expired, expire_lease, count_busy_skip, count_timeout, service_busy, serviceCore}
+use Rattle.dshot_bank_spec.specs.Service.{ServiceEvent, busy, lease_expired_event, faulted, Served, Skipped, unsent, skipped, demand_expired, expire_lease, count_busy_skip, count_timeout, service_busy, service_core}
 use Rattle.dshot_bank_spec.proofs.LaneLaws.{on, off, either, under}
 use Rattle.dshot_bank_spec.proofs.FaultLaws.{Latched, latch-clears, fault-counted}
 use Rattle.dshot_bank_spec.proofs.Service.{leased_core, leased-keeps, leased-frame}
@@ -62,7 +62,7 @@ pub record TimesOut (n : ℕ) (c : Core) (replies : List LaneReply) (buffers : B
 
 module _ (n now : ℕ) (taken present : List Bool) (masks samples : List ℕ) (replies : List LaneReply) (buffers : Buffers) (c : Core) where
   abbrev served : Served
-  served = serviceCore n now taken present masks samples replies buffers c
+  served = service_core n now taken present masks samples replies buffers c
 
   abbrev expired : Bool
   expired = demand_expired now c.demand
@@ -70,7 +70,7 @@ module _ (n now : ℕ) (taken present : List Bool) (masks samples : List ℕ) (r
   module _ (f : c.frame.faulted ≡ false) (b : c.frame.busy ≡ true) where
     -- it is skipped or latched, and nothing is sent
     in-flight : (k : Skipped) → k ≡ service_busy n now expired (leased_core n now c) → served ≡ unsent n now taken present masks samples replies buffers k
-    unfolding serviceCore clear_request_sent
+    unfolding service_core clear_request_sent
     in-flight k e =
         sym (off _ _ f (on _ _ (ap (λ (q : Frame). q.busy) (leased-frame n now c) ∙ b) refl))
         ∙ ap (unsent n now taken present masks samples replies buffers) (sym e)

@@ -16,7 +16,7 @@ use Rattle.dshot_bank_spec.specs.State.{Frame, Core, LaneReply, Buffers}
 use Rattle.dshot_bank_spec.specs.Commands.{no_replies, command_stop, clear_request_sent}
 use Rattle.dshot_bank_spec.specs.Replies.{count_reply, decode_lane, decode_replies}
 use Rattle.dshot_bank_spec.specs.Send.{Sent, latch_fault, exchange_refused, exchange_buffers, frame_started, send_requested}
-use Rattle.dshot_bank_spec.specs.Service.{Served, replies_read, read_replies, serviceCore}
+use Rattle.dshot_bank_spec.specs.Service.{Served, replies_read, read_replies, service_core}
 use Rattle.dshot_bank_spec.specs.Calls.{service_call, State, Stepped, act}
 use Rattle.dshot_bank_spec.specs.Steps.{length_refusal, port_refusal, refuse_or, step}
 use Rattle.dshot_bank_spec.specs.Lists.{run, fresh}
@@ -60,9 +60,9 @@ module _ (n now : ℕ) (taken present : List Bool) (masks samples : List ℕ) (r
   picked-replies false true w x y z p q r = q
   picked-replies false false w x y z p q r = r
 
-  pub service-reads : (c : Core) → (serviceCore n now taken present masks samples replies buffers c).bank.replies
+  pub service-reads : (c : Core) → (service_core n now taken present masks samples replies buffers c).bank.replies
       ≡ read_replies n (pick c.frame.faulted false (pick c.frame.busy false c.frame.replies_waiting)) present masks samples replies
-  unfolding serviceCore clear_request_sent
+  unfolding service_core clear_request_sent
   service-reads c =
       let d = c.frame.faulted in
       let f = (leased_core n now c).frame in
@@ -72,7 +72,7 @@ module _ (n now : ℕ) (taken present : List Bool) (masks samples : List ℕ) (r
 
   -- what a service reads is there to be taken
   service-holds : (c : Core) → pick c.frame.faulted false (pick c.frame.busy false c.frame.replies_waiting) ≡ true
-      → (serviceCore n now taken present masks samples replies buffers c).bank.core.frame.replies_held ≡ true
+      → (service_core n now taken present masks samples replies buffers c).bank.core.frame.replies_held ≡ true
   service-holds c h =
       let p = not_first c.frame.faulted h false≢true in
       let q = not_first c.frame.busy p.1 false≢true in

@@ -7,7 +7,7 @@ use Rattle.dshot_reply_spec.specs.Answer.{given}
 use Rattle.dshot_reply_spec.specs.Answer as Reply
 use Rattle.dshot_bank_spec.specs.State.{Core}
 use Rattle.dshot_bank_spec.specs.Commands.{enable_bidirectional, command_stop, command_throttles, command_special, request_telemetry, cancel_telemetry_request, clear_request_sent}
-use Rattle.dshot_bank_spec.specs.Calls.{Call, enable_bidirectional_call, command_stop_call, command_throttles_call, command_special_call, request_telemetry_call, cancel_telemetry_request_call, take_telemetry_request_sent, service_call, on_dma_interrupt, take_replies, is_bidirectional, is_faulted, stats, requested_values_call, command_pending_call, reply_stats, sending, lend, State, Stepped, commanded, act}
+use Rattle.dshot_bank_spec.specs.Calls.{Call, enable_bidirectional_call, command_stop_call, command_throttles_call, command_special_call, request_telemetry_call, cancel_telemetry_request_call, take_telemetry_request_sent, service_call, on_dma_interrupt_call, take_replies, is_bidirectional, is_faulted, stats, requested_values_call, command_pending_call, reply_stats, sending, lend, State, Stepped, commanded, act}
 use Rattle.dshot_bank_spec.specs.Steps.{step}
 use Rattle.dshot_bank_spec.specs.Interrupt.{Interrupted}
 use Rattle.dshot_bank_spec.specs.Service.{Served}
@@ -40,7 +40,7 @@ module _ (n : ℕ) (s : State) (f : s.bank.core.frame.faulted ≡ true) where
   act-stays (service_call now taken present masks samples) =
       let serves = faulted-serves s.bank.core f n now taken present masks samples s.bank.replies s.buffers in
       ap (λ (z : Served). z.bank.core.frame.faulted) serves ∙ f
-  act-stays (on_dma_interrupt motor complete error turned back) =
+  act-stays (on_dma_interrupt_call motor complete error turned back) =
       ap (λ (r : Interrupted). r.core.frame.faulted) (faulted-interrupts s.bank.core f n motor complete error turned back) ∙ f
   act-stays take_replies = f
   act-stays is_bidirectional = f

@@ -12,9 +12,9 @@ use Rattle.dshot_bank_spec.specs.Lanes.{any, is_some, position}
 use Rattle.dshot_bank_spec.specs.State.{Frame, Core, LaneReply, Buffers}
 use Rattle.dshot_bank_spec.specs.Commands.{any_requested, is_running, command_stop, command_throttles, command_special, request_telemetry, cancel_telemetry_request, clear_request_sent}
 use Rattle.dshot_bank_spec.specs.Send.{Sent, latch_fault, exchange_refused, frame_started, exchange_buffers, send_requested}
-use Rattle.dshot_bank_spec.specs.Interrupt.{Interrupted, all_complete, is_complete, lane_done, frame_done, window_opened, window_closed, opens_window, afterLane, onDmaInterrupt}
-use Rattle.dshot_bank_spec.specs.Service.{Served, Skipped, demand_expired, service_busy, replies_read, serviceCore}
-use Rattle.dshot_bank_spec.specs.Calls.{Call, enable_bidirectional_call, command_stop_call, command_throttles_call, command_special_call, request_telemetry_call, cancel_telemetry_request_call, take_telemetry_request_sent, service_call, on_dma_interrupt, take_replies, is_bidirectional, is_faulted, stats, requested_values_call, command_pending_call, reply_stats, sending, lend, State, Stepped, commanded, act}
+use Rattle.dshot_bank_spec.specs.Interrupt.{Interrupted, all_complete, is_complete, lane_done, frame_done, window_opened, window_closed, opens_window, after_lane, on_dma_interrupt}
+use Rattle.dshot_bank_spec.specs.Service.{Served, Skipped, demand_expired, service_busy, replies_read, service_core}
+use Rattle.dshot_bank_spec.specs.Calls.{Call, enable_bidirectional_call, command_stop_call, command_throttles_call, command_special_call, request_telemetry_call, cancel_telemetry_request_call, take_telemetry_request_sent, service_call, on_dma_interrupt_call, take_replies, is_bidirectional, is_faulted, stats, requested_values_call, command_pending_call, reply_stats, sending, lend, State, Stepped, commanded, act}
 use Rattle.dshot_bank_spec.specs.Steps.{step}
 use Rattle.dshot_bank_spec.proofs.LaneLaws.{either}
 use Rattle.dshot_bank_spec.proofs.Refusals.{either_step}
@@ -42,8 +42,8 @@ module _ (n now : ℕ) (m : Bool) where
   send-mode taken c h = either (λ (s : Sent). In m s.core) (ltb (position not taken) n) h h
 
   service-mode : (taken present : List Bool) (masks samples : List ℕ) (replies : List LaneReply) (buffers : Buffers) (c : Core)
-      → In m c → In m (serviceCore n now taken present masks samples replies buffers c).bank.core
-  unfolding serviceCore clear_request_sent
+      → In m c → In m (service_core n now taken present masks samples replies buffers c).bank.core
+  unfolding service_core clear_request_sent
   service-mode taken present masks samples replies buffers c h =
       let c₁ = leased_core n now c in
       let h₁ = ap (λ (q : Frame). q.bidirectional) (leased-frame n now c) ∙ h in
@@ -57,15 +57,15 @@ module _ (n motor : ℕ) (complete error turned back m : Bool) where
   abbrev InAfter : Interrupted → Type 0
   InAfter r = In m r.core
 
-  lane-mode : (c : Core) → In m c → InAfter (afterLane n motor complete error turned back c)
-  unfolding afterLane latch_fault command_stop window_opened window_closed frame_done
+  lane-mode : (c : Core) → In m c → InAfter (after_lane n motor complete error turned back c)
+  unfolding after_lane latch_fault command_stop window_opened window_closed frame_done
   lane-mode c h =
       either InAfter (not (eqb c.frame.completion_mask (all_complete n))) h
       (either InAfter (opens_window c.frame) (either InAfter turned h h)
       (either InAfter c.frame.receiving (either InAfter back h h) h))
 
-  interrupt-mode : (c : Core) → In m c → InAfter (onDmaInterrupt n motor complete error turned back c)
-  unfolding onDmaInterrupt latch_fault command_stop lane_done
+  interrupt-mode : (c : Core) → In m c → InAfter (on_dma_interrupt n motor complete error turned back c)
+  unfolding on_dma_interrupt latch_fault command_stop lane_done
   interrupt-mode c h =
       either InAfter c.frame.faulted h
       (either InAfter (not c.frame.busy) h
@@ -84,7 +84,7 @@ enables (request_telemetry_call motor) = false
 enables cancel_telemetry_request_call = false
 enables take_telemetry_request_sent = false
 enables (service_call now taken present masks samples) = false
-enables (on_dma_interrupt motor complete error turned back) = false
+enables (on_dma_interrupt_call motor complete error turned back) = false
 enables take_replies = false
 enables is_bidirectional = false
 enables is_faulted = false
@@ -130,7 +130,7 @@ module _ (n : ℕ) (s : State) where
   act-mode take_telemetry_request_sent e = refl
   act-mode (service_call now taken present masks samples) e =
       service-mode n now s.bank.core.frame.bidirectional taken present masks samples s.bank.replies s.buffers s.bank.core refl
-  act-mode (on_dma_interrupt motor complete error turned back) e =
+  act-mode (on_dma_interrupt_call motor complete error turned back) e =
       interrupt-mode n motor complete error turned back s.bank.core.frame.bidirectional s.bank.core refl
   act-mode take_replies e = refl
   act-mode is_bidirectional e = refl

@@ -9,7 +9,7 @@ use Rattle.dshot_reply_spec.specs.Answer as Reply
 use Rattle.dshot_bank_spec.specs.Lanes.{any, is_some}
 use Rattle.dshot_bank_spec.specs.State.{Core}
 use Rattle.dshot_bank_spec.specs.Commands.{any_requested, enable_bidirectional, command_stop, command_throttles, request_telemetry, cancel_telemetry_request, clear_request_sent}
-use Rattle.dshot_bank_spec.specs.Calls.{Call, enable_bidirectional_call, command_stop_call, command_throttles_call, command_special_call, request_telemetry_call, cancel_telemetry_request_call, take_telemetry_request_sent, service_call, on_dma_interrupt, take_replies, is_bidirectional, is_faulted, stats, requested_values_call, command_pending_call, reply_stats, sending, lend, State, Stepped, commanded, act}
+use Rattle.dshot_bank_spec.specs.Calls.{Call, enable_bidirectional_call, command_stop_call, command_throttles_call, command_special_call, request_telemetry_call, cancel_telemetry_request_call, take_telemetry_request_sent, service_call, on_dma_interrupt_call, take_replies, is_bidirectional, is_faulted, stats, requested_values_call, command_pending_call, reply_stats, sending, lend, State, Stepped, commanded, act}
 use Rattle.dshot_bank_spec.specs.Steps.{step}
 use Rattle.dshot_bank_spec.proofs.LaneLaws.{either}
 use Rattle.dshot_bank_spec.proofs.Refusals.{either_step}
@@ -23,7 +23,7 @@ may_change_run (request_telemetry_call motor) = false
 may_change_run cancel_telemetry_request_call = false
 may_change_run take_telemetry_request_sent = false
 may_change_run (service_call now taken present masks samples) = true
-may_change_run (on_dma_interrupt motor complete error turned back) = true
+may_change_run (on_dma_interrupt_call motor complete error turned back) = true
 may_change_run take_replies = false
 may_change_run is_bidirectional = false
 may_change_run is_faulted = false
@@ -66,7 +66,7 @@ module _ (n : ℕ) (s : State) where
   act-keeps cancel_telemetry_request_call e = refl
   act-keeps take_telemetry_request_sent e = refl
   act-keeps (service_call now taken present masks samples) e = cc
-  act-keeps (on_dma_interrupt motor complete error turned back) e = cc
+  act-keeps (on_dma_interrupt_call motor complete error turned back) e = cc
   act-keeps take_replies e = refl
   act-keeps is_bidirectional e = refl
   act-keeps is_faulted e = refl

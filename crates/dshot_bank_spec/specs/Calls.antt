@@ -15,7 +15,7 @@ use Rattle.dshot_bank_spec.specs.With.{with_frame, with_replies_held, with_core}
 use Rattle.dshot_bank_spec.specs.Order.{Order}
 use Rattle.dshot_bank_spec.specs.Commands.{enable_bidirectional, command_stop, command_throttles, command_special, request_telemetry, cancel_telemetry_request, clear_request_sent}
 use Rattle.dshot_bank_spec.specs.Service.{ServiceEvent, Served, service}
-use Rattle.dshot_bank_spec.specs.Interrupt.{InterruptEvent, Interrupted, onDmaInterrupt}
+use Rattle.dshot_bank_spec.specs.Interrupt.{InterruptEvent, Interrupted, on_dma_interrupt}
 
 -- A call with its arguments, its clock, the hardware's answers and the captures. The calls from `is_bidirectional` to `sending` only look. `lend` is
 -- no call of the bank: between two calls the caller may write the lent buffers, or lend others.
@@ -28,7 +28,7 @@ pub data Call : Type 0 where
   cancel_telemetry_request_call : Call
   take_telemetry_request_sent : Call
   service_call : (now : ℕ) (taken present : List Bool) (masks samples : List ℕ) → Call
-  on_dma_interrupt : (motor : ℕ) (complete error turned back : Bool) → Call
+  on_dma_interrupt_call : (motor : ℕ) (complete error turned back : Bool) → Call
   take_replies : Call
   is_bidirectional : Call
   is_faulted : Call
@@ -122,7 +122,7 @@ act n s (request_telemetry_call motor) = commanded s (request_telemetry motor s.
 act n s cancel_telemetry_request_call = changed s done (cancel_telemetry_request s.bank.core)
 act n s take_telemetry_request_sent = changed s (motor_sent s.bank.core.telemetry.request_sent) (clear_request_sent s.bank.core)
 act n s (service_call now taken present masks samples) = served_step s (service n now taken present masks samples s.bank s.buffers)
-act n s (on_dma_interrupt motor complete error turned back) = interrupted_step s (onDmaInterrupt n motor complete error turned back s.bank.core)
+act n s (on_dma_interrupt_call motor complete error turned back) = interrupted_step s (on_dma_interrupt n motor complete error turned back s.bank.core)
 act n s take_replies = changed s (replied (if s.bank.core.frame.replies_held then some (replies_of s.bank.replies) else none)) (replies_taken s.bank.core)
 act n s is_bidirectional = told s (flag s.bank.core.frame.bidirectional)
 act n s is_faulted = told s (flag s.bank.core.frame.faulted)

@@ -118,4 +118,4 @@ clear_request_sent c = with_telemetry (record { request = c.telemetry.request; r
 
 -- the Rust's `fallback_release_due`: whether no frame set was released for two milliseconds, on a clock of 32 bits that may wrap
 unfoldable pub fallback_release_due : ℕ → ℕ → Bool
-fallback_release_due now lastRelease = leb 2 (elapsed 32 lastRelease now)
+fallback_release_due now last_release = leb 2 (elapsed 32 last_release now)

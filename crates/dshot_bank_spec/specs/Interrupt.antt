@@ -64,11 +64,11 @@ module _ (n motor : ℕ) (complete error turned back : Bool) where
   interrupted e l c = record { event = e; orders = pause_and_clear motor ∷ l; core = c }
 
   abbrev pub latched : Bool → InterruptEvent → List Order → Core → Interrupted
-  latched isSpurious e l c = interrupted e (l ++ latch_orders n) (latch_fault n isSpurious c)
+  latched is_spurious e l c = interrupted e (l ++ latch_orders n) (latch_fault n is_spurious c)
 
   -- the Rust's `if self.completion_mask == ALL_MOTORS_COMPLETE { .. }`
-  unfoldable pub afterLane : Core → Interrupted
-  afterLane c =
+  unfoldable pub after_lane : Core → Interrupted
+  after_lane c =
       if not (eqb c.frame.completion_mask (all_complete n)) then interrupted completed [] c else
       if opens_window c.frame then
       (if turned then interrupted completed (begin_receive ∷ []) (window_opened c) else latched false faulted (begin_receive ∷ []) c) else
@@ -77,11 +77,11 @@ module _ (n motor : ℕ) (complete error turned back : Bool) where
       interrupted completed (stop_frame ∷ []) (frame_done c)
 
   -- the Rust's `on_dma_interrupt`
-  unfoldable pub onDmaInterrupt : Core → Interrupted
-  onDmaInterrupt c =
+  unfoldable pub on_dma_interrupt : Core → Interrupted
+  on_dma_interrupt c =
       if c.frame.faulted then interrupted faulted [] c else
       if not c.frame.busy then latched true spurious [] c else
       if is_complete motor c.frame.completion_mask then latched true spurious [] c else
       if error then latched false faulted [] c else
       if not complete then latched true spurious [] c else
-      afterLane (lane_done motor c)
+      after_lane (lane_done motor c)

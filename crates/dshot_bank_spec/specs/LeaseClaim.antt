@@ -5,7 +5,7 @@ use Rattle.std.proofs.Math.Option.{Option, none, some}
 use Rattle.dshot_bank_spec.specs.State.{Core, LaneReply, Buffers}
 use Rattle.dshot_bank_spec.specs.Commands.{MotorCommand, command_stop, next_command_frame}
 use Rattle.dshot_bank_spec.specs.FrameSet.{next_set}
-use Rattle.dshot_bank_spec.specs.Service.{demand_expired, serviceCore}
+use Rattle.dshot_bank_spec.specs.Service.{demand_expired, service_core}
 use Rattle.dshot_bank_spec.specs.SentClaim.{sending_core}
 
 -- The values of a set if no value is requested. If a run is left, its next command goes to its lane, whatever its number. All others are 0.
@@ -17,7 +17,7 @@ module _ (n now : ℕ) (c : Core) where
   pub record LeaseEnded : Type 0 where
     -- If a service finds the lease expired and no fault, it leaves no value requested and no lease. A set may be in flight or not.
     pub left : (taken present : List Bool) (masks samples : List ℕ) (replies : List LaneReply) (buffers : Buffers) → c.frame.faulted ≡ false
-        → (serviceCore n now taken present masks samples replies buffers c).bank.core.demand ≡ (command_stop n c).demand
+        → (service_core n now taken present masks samples replies buffers c).bank.core.demand ≡ (command_stop n c).demand
     -- The service begins to send with no value requested and no lease.
     pub stopped : (sending_core n now c).demand ≡ (command_stop n c).demand
     -- What it sends is a set without a throttle. If no run is left, all values are 0.

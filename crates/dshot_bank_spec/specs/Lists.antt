@@ -5,7 +5,7 @@ use Rattle.std.specs.Prelude.{ℕ, Bool, true, false, List, [], ◌∷◌, if◌
 use Rattle.dshot_spec.specs.Timing.{Timing}
 use Rattle.dshot_bank_spec.specs.State.{Buffers}
 use Rattle.dshot_bank_spec.specs.Commands.{from_lanes}
-use Rattle.dshot_bank_spec.specs.Calls.{Call, enable_bidirectional_call, command_stop_call, command_throttles_call, command_special_call, request_telemetry_call, cancel_telemetry_request_call, take_telemetry_request_sent, service_call, on_dma_interrupt, take_replies, is_bidirectional, is_faulted, stats, requested_values_call, command_pending_call, reply_stats, sending, lend, Answer, done, refused, motor_sent, serviced, interrupted, replied, flag, counts, values, reply_counts, slots, State, Stepped, act}
+use Rattle.dshot_bank_spec.specs.Calls.{Call, enable_bidirectional_call, command_stop_call, command_throttles_call, command_special_call, request_telemetry_call, cancel_telemetry_request_call, take_telemetry_request_sent, service_call, on_dma_interrupt_call, take_replies, is_bidirectional, is_faulted, stats, requested_values_call, command_pending_call, reply_stats, sending, lend, Answer, done, refused, motor_sent, serviced, interrupted, replied, flag, counts, values, reply_counts, slots, State, Stepped, act}
 use Rattle.dshot_bank_spec.specs.Steps.{step}
 
 -- ---- traces
@@ -40,7 +40,7 @@ is_look (request_telemetry_call motor) = false
 is_look cancel_telemetry_request_call = false
 is_look take_telemetry_request_sent = false
 is_look (service_call now taken present masks samples) = false
-is_look (on_dma_interrupt motor complete error turned back) = false
+is_look (on_dma_interrupt_call motor complete error turned back) = false
 is_look take_replies = false
 is_look is_bidirectional = true
 is_look is_faulted = true

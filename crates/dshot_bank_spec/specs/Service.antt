@@ -96,8 +96,8 @@ module _ (n now : ℕ) (taken present : List Bool) (masks samples : List ℕ) (r
       record { event = sent_event sent.started expired; orders = sent.orders; bank = record { core = sent.core; replies = decoded }; buffers = sent_buffers n c buffers }
 
   -- the steps of `service` in the source's order
-  unfoldable pub serviceCore : Core → Served
-  serviceCore c =
+  unfoldable pub service_core : Core → Served
+  service_core c =
       let c₀ = clear_request_sent c in
       if c₀.frame.faulted then unsent (skipped faulted [] c₀) else
       let expired = demand_expired now c₀.demand in
@@ -108,4 +108,4 @@ module _ (n now : ℕ) (taken present : List Bool) (masks samples : List ℕ) (r
 -- The parameters are the hardware's answers. `taken`: whether each lane took its buffer. `present`: whether it has a capture. `masks` and `samples`:
 -- the captures.
 abbrev pub service : ℕ → ℕ → List Bool → List Bool → List ℕ → List ℕ → Bank → Buffers → Served
-service n now taken present masks samples b buffers = serviceCore n now taken present masks samples b.replies buffers b.core
+service n now taken present masks samples b buffers = service_core n now taken present masks samples b.replies buffers b.core

@@ -4,7 +4,7 @@
 use Rattle.std.specs.Prelude.{ℕ, ◌*◌, Bool, false, eqb, ltb, length, if◌then◌else◌}
 use Rattle.dshot_reply_spec.specs.Refusals.{wrong_length, no_such_motor}
 use Rattle.dshot_bank_spec.specs.State.{Buffers}
-use Rattle.dshot_bank_spec.specs.Calls.{Call, enable_bidirectional_call, command_stop_call, command_throttles_call, command_special_call, request_telemetry_call, cancel_telemetry_request_call, take_telemetry_request_sent, service_call, on_dma_interrupt, take_replies, is_bidirectional, is_faulted, stats, requested_values_call, command_pending_call, reply_stats, sending, lend, refused, State, Stepped, told, act}
+use Rattle.dshot_bank_spec.specs.Calls.{Call, enable_bidirectional_call, command_stop_call, command_throttles_call, command_special_call, request_telemetry_call, cancel_telemetry_request_call, take_telemetry_request_sent, service_call, on_dma_interrupt_call, take_replies, is_bidirectional, is_faulted, stats, requested_values_call, command_pending_call, reply_stats, sending, lend, refused, State, Stepped, told, act}
 
 -- ---- What only the port refuses: first a lent buffer of the wrong length, then a lane that does not exist. The source's types allow neither.
 
@@ -31,7 +31,7 @@ port_refusal n s (service_call now taken present masks samples) = length_refusal
 port_refusal n s (sending motor) = length_refusal (buffers_fit n s.buffers) (lane_refusal n motor)
 port_refusal n s (command_special_call motor sequence) = lane_refusal n motor
 port_refusal n s (request_telemetry_call motor) = lane_refusal n motor
-port_refusal n s (on_dma_interrupt motor complete error turned back) = lane_refusal n motor
+port_refusal n s (on_dma_interrupt_call motor complete error turned back) = lane_refusal n motor
 port_refusal n s (enable_bidirectional_call receives) = 0
 port_refusal n s command_stop_call = 0
 port_refusal n s (command_throttles_call commands now lease) = 0

@@ -51,7 +51,7 @@ BodyFrom W.ending is = Then End (λ r. Items r is)
 BodyFrom W.items is = λ r. Items r is
 BodyFrom W.text is = AfterText (λ r. Items r is)
 BodyFrom W.in_block is = InBlock is
-BodyFrom W.itemCode is = Then Name (λ r. Items r is)
+BodyFrom W.item_code is = Then Name (λ r. Items r is)
 BodyFrom W.block_code is = Then Name (InBlock is)
 
 -- what must follow a word at a place
@@ -122,7 +122,7 @@ word_in W.ending is w ws h = wanted (is_end w.bytes) W.items _ w.at is ws h
 word_in W.items is w ws h = item_in (kind_of w.bytes) is w ws (seen w.bytes) h
 word_in W.text is w ws h = text_in (λ m. BodyFrom m is) W.items W.text w ws (is_end w.bytes) refl (λ d. d) h
 word_in W.in_block is w ws h = in-block (is_end w.bytes) is w ws refl h
-word_in W.itemCode is w ws h = wanted (is_name w.bytes) W.items _ w.at is ws h
+word_in W.item_code is w ws h = wanted (is_name w.bytes) W.items _ w.at is ws h
 word_in W.block_code is w ws h = wanted (is_name w.bytes) W.in_block _ w.at is ws h
 
 -- ---- what the walk gives, as items
@@ -152,7 +152,7 @@ module _ (n : ℕ) where
   ended W.items (G.value l c ∷ is) e = absurd (true≢false (cc))
   ended W.text is e = absurd (whole _ _ is e)
   ended W.in_block is e = absurd (whole _ _ is e)
-  ended W.itemCode is e = whole _ _ is e
+  ended W.item_code is e = whole _ _ is e
   ended W.block_code is e = whole _ _ is e
 
   -- what the walk gives after a word is what must follow

@@ -131,7 +131,7 @@ step-bounded W.ending w = chosen StepBounded (is_end w) _ _ (λ e. tt) (λ e. re
 step-bounded W.items w = item-bounded w (kind_of w) (kind-bounded w)
 step-bounded W.text w = tt
 step-bounded W.in_block w = chosen StepBounded (is_end w) _ _ (λ e. tt) (λ e. block-bounded w (kind_of w) (kind-bounded w))
-step-bounded W.itemCode w = chosen StepBounded (is_name w) _ _ (λ e. tt) (λ e. refl)
+step-bounded W.item_code w = chosen StepBounded (is_name w) _ _ (λ e. tt) (λ e. refl)
 step-bounded W.block_code w = chosen StepBounded (is_name w) _ _ (λ e. tt) (λ e. refl)
 
 end-bounded : (n : ℕ) (m : BodyMode) → Bounded (at_end n m)
@@ -139,7 +139,7 @@ end-bounded n W.ending = refl
 end-bounded n W.items = tt
 end-bounded n W.text = refl
 end-bounded n W.in_block = refl
-end-bounded n W.itemCode = refl
+end-bounded n W.item_code = refl
 end-bounded n W.block_code = refl
 
 then-bounded : (s : BodyStep) (p : ℕ) (rest : BodyMode → Body) → StepBounded s → ((m : BodyMode) → Bounded (rest m)) → Bounded (body_then s p rest)
@@ -203,11 +203,11 @@ head-step-bounded : (m : HeadMode) (w : Placed) → HeadStepBounded (head_step m
 head-step-bounded W.declaration w = declaration-bounded w.bytes (kind_of w.bytes)
 head-step-bounded W.text w = tt
 head-step-bounded W.scale w = scale-bounded (scale_of w.bytes)
-head-step-bounded W.scopeType w = needs-bounded (one_of scope_types w.bytes) _ _ refl
-head-step-bounded W.scopeName w = needs-bounded (is_name w.bytes) _ _ refl
+head-step-bounded W.scope_type w = needs-bounded (one_of scope_types w.bytes) _ _ refl
+head-step-bounded W.scope_name w = needs-bounded (is_name w.bytes) _ _ refl
 head-step-bounded W.closing w = needs-bounded (is_end w.bytes) _ _ refl
-head-step-bounded W.varType w = needs-bounded (one_of var_types w.bytes) _ _ refl
-head-step-bounded W.varSize w = size-bounded (number_of w.bytes)
+head-step-bounded W.var_type w = needs-bounded (one_of var_types w.bytes) _ _ refl
+head-step-bounded W.var_size w = size-bounded (number_of w.bytes)
 head-step-bounded (W.scale_unit n) w = scale-bounded (unit_in units n w.bytes)
 head-step-bounded (W.var_code n) w = needs-bounded (is_name w.bytes) _ _ refl
 head-step-bounded (W.var_name n c) w = needs-bounded (is_name w.bytes) _ _ refl

@@ -68,7 +68,7 @@ first = record {
   past-gap = refl;
 }
 
-second : Half N.lastBefore N.lastMinus N.lastDigits N.lastAfter after_last
+second : Half N.last_before N.last_minus N.last_digits N.last_after after_last
 second = record {
   start-byte = λ b. refl;
   sign-byte = λ b. refl;
@@ -111,7 +111,7 @@ group-run (B.range g n c k m e) =
     gaps-run N.before refl g
     ∙ number-run first n
     ∙ close-run first 58 refl c
-    ∙ gaps-run N.lastBefore refl k
+    ∙ gaps-run N.last_before refl k
     ∙ number-run second m
     ∙ close-run second 93 refl e
 
@@ -146,10 +146,10 @@ Rest N.before s = NumberDue AfterFirst s
 Rest N.minus s = DigitsDue AfterFirst s
 Rest N.digits s = Inside AfterFirst s
 Rest N.after s = AfterFirst s
-Rest N.lastBefore s = NumberDue AfterLast s
-Rest N.lastMinus s = DigitsDue AfterLast s
-Rest N.lastDigits s = Inside AfterLast s
-Rest N.lastAfter s = AfterLast s
+Rest N.last_before s = NumberDue AfterLast s
+Rest N.last_minus s = DigitsDue AfterLast s
+Rest N.last_digits s = Inside AfterLast s
+Rest N.last_after s = AfterLast s
 Rest N.wrong s = ⊥
 
 -- nothing is left
@@ -159,10 +159,10 @@ ends N.before e = absurd (true≢false (sym e))
 ends N.minus e = absurd (true≢false (sym e))
 ends N.digits e = absurd (true≢false (sym e))
 ends N.after e = absurd (true≢false (sym e))
-ends N.lastBefore e = absurd (true≢false (sym e))
-ends N.lastMinus e = absurd (true≢false (sym e))
-ends N.lastDigits e = absurd (true≢false (sym e))
-ends N.lastAfter e = absurd (true≢false (sym e))
+ends N.last_before e = absurd (true≢false (sym e))
+ends N.last_minus e = absurd (true≢false (sym e))
+ends N.last_digits e = absurd (true≢false (sym e))
+ends N.last_after e = absurd (true≢false (sym e))
 ends N.wrong e = absurd (true≢false (sym e))
 
 -- ---- a gap more in front
@@ -187,10 +187,10 @@ gap_back N.before s r = number-gap r
 gap_back N.minus s r = absurd r
 gap_back N.digits s r = inr (first-gap r)
 gap_back N.after s r = first-gap r
-gap_back N.lastBefore s r = number-gap r
-gap_back N.lastMinus s r = absurd r
-gap_back N.lastDigits s r = inr (last-gap r)
-gap_back N.lastAfter s r = last-gap r
+gap_back N.last_before s r = number-gap r
+gap_back N.last_minus s r = absurd r
+gap_back N.last_digits s r = inr (last-gap r)
+gap_back N.last_after s r = last-gap r
 gap_back N.wrong s r = absurd r
 
 -- ---- a byte more in front
@@ -212,7 +212,7 @@ unfolding after_number
 first_back b s =
     choose s (eqb b 93) N.outside _
     (λ e gs. found AfterFirst b 93 s e (closes B.none gs))
-    (λ _. choose s (eqb b 58) N.lastBefore N.wrong (λ e n. found AfterFirst b 58 s e (goes B.none n)) (λ _ r. absurd r))
+    (λ _. choose s (eqb b 58) N.last_before N.wrong (λ e n. found AfterFirst b 58 s e (goes B.none n)) (λ _ r. absurd r))
 
 last-back : (b : ℕ) (s : List Symbol) → Rest (after_last b) s → AfterLast (byte b ∷ s)
 last-back b s = choose s (eqb b 93) N.outside N.wrong (λ e gs. found AfterLast b 93 s e (closes B.none gs)) (λ _ r. absurd r)
@@ -246,10 +246,10 @@ byte-back N.before b s r = start_back AfterFirst N.minus N.digits after_number b
 byte-back N.minus b s r = sign-back AfterFirst N.minus N.digits after_number b s (λ x. x) (λ x. x) (first_back b s) r
 byte-back N.digits b s r = inside_back AfterFirst N.minus N.digits after_number b s (λ x. x) (λ x. x) (first_back b s) r
 byte-back N.after b s r = first_back b s r
-byte-back N.lastBefore b s r = start_back AfterLast N.lastMinus N.lastDigits after_last b s (λ x. x) (λ x. x) (last-back b s) r
-byte-back N.lastMinus b s r = sign-back AfterLast N.lastMinus N.lastDigits after_last b s (λ x. x) (λ x. x) (last-back b s) r
-byte-back N.lastDigits b s r = inside_back AfterLast N.lastMinus N.lastDigits after_last b s (λ x. x) (λ x. x) (last-back b s) r
-byte-back N.lastAfter b s r = last-back b s r
+byte-back N.last_before b s r = start_back AfterLast N.last_minus N.last_digits after_last b s (λ x. x) (λ x. x) (last-back b s) r
+byte-back N.last_minus b s r = sign-back AfterLast N.last_minus N.last_digits after_last b s (λ x. x) (λ x. x) (last-back b s) r
+byte-back N.last_digits b s r = inside_back AfterLast N.last_minus N.last_digits after_last b s (λ x. x) (λ x. x) (last-back b s) r
+byte-back N.last_after b s r = last-back b s r
 byte-back N.wrong b s r = absurd r
 
 run-derives : (p : Part) (s : List Symbol) → run p s ≡ N.outside → Rest p s
@@ -279,6 +279,6 @@ unfolding is_digit after_number
 some-wrong = (refl, refl, refl, refl, refl)
 
 -- a bracket that stays open
-pub some-open : index_words N.outside (map ascii ("[3" ∷ ":" ∷ [])) ≡ N.lastBefore
+pub some-open : index_words N.outside (map ascii ("[3" ∷ ":" ∷ [])) ≡ N.last_before
 unfolding is_digit after_number
 some-open = refl

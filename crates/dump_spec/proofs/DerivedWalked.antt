@@ -27,7 +27,7 @@ module _ (n : ℕ) where
   body-text (G.ends {w = w} {r = r} e) = body-step W.text w r (W.goes W.items) (ap W.goes (on _ _ e))
   body-text (G.goes {w = w} {ws = ws} e t) = body-step W.text w ws (W.goes W.text) (ap W.goes (off _ _ e)) ∙ body-text t
 
-  skipped-item : {w : Word} → Skipped w → item_step w (kind_of w) ≡ W.goes W.itemCode
+  skipped-item : {w : Word} → Skipped w → item_step w (kind_of w) ≡ W.goes W.item_code
   skipped-item {w} (G.vector k) = ap (item_step w) (is-kind k)
   skipped-item {w} (G.real k) = ap (item_step w) (is-kind k)
 
@@ -59,7 +59,7 @@ module _ (n : ℕ) where
   items-walked (G.block {w = w} {ws = ws} k b i) =
       body-step W.items w ws (W.goes W.in_block) (ap (item_step w.bytes) (is-kind k)) ∙ block_walked b (items-walked i)
   items-walked (G.skipped {w = w} {c = c} {ws = ws} s i rest) =
-      body-step W.items w (c ∷ ws) (W.goes W.itemCode) (skipped-item s) ∙ body-step W.itemCode c ws (W.goes W.items) (on _ _ i) ∙ items-walked rest
+      body-step W.items w (c ∷ ws) (W.goes W.item_code) (skipped-item s) ∙ body-step W.item_code c ws (W.goes W.items) (on _ _ i) ∙ items-walked rest
 
   -- ---- the declarations
 
@@ -104,17 +104,17 @@ module _ (n : ℕ) where
       ∙ head_step-moves (W.scale_unit j) v (e ∷ ws) (W.scales u W.closing) (ap scale_step t)
       ∙ ap (W.timescale u) (closing-step e ws z ∙ decls-walked d)
   decls-walked (G.scope {w = w} {t = t} {n = m} {e = e} {ws = ws} k s i z d) =
-      declaration-step (W.goes W.scopeType) w (t ∷ m ∷ e ∷ ws) k refl
-      ∙ head_step-moves W.scopeType t (m ∷ e ∷ ws) (W.goes W.scopeName) (on _ _ s)
-      ∙ head_step-moves W.scopeName m (e ∷ ws) (W.goes W.closing) (on _ _ i)
+      declaration-step (W.goes W.scope_type) w (t ∷ m ∷ e ∷ ws) k refl
+      ∙ head_step-moves W.scope_type t (m ∷ e ∷ ws) (W.goes W.scope_name) (on _ _ s)
+      ∙ head_step-moves W.scope_name m (e ∷ ws) (W.goes W.closing) (on _ _ i)
       ∙ closing-step e ws z
       ∙ decls-walked d
   decls-walked (G.upscope {w = w} {e = e} {ws = ws} k z d) = declaration-step (W.goes W.closing) w (e ∷ ws) k refl ∙ closing-step e ws z ∙ decls-walked d
   decls-walked (G.var {w = w} {t = t} {s = s} {c = c} {n = m} {e = e} {ws = ws} {k = j} k y z i o x d) =
       let v = variable_in j c.bytes m in
-      declaration-step (W.goes W.varType) w (t ∷ s ∷ c ∷ m ∷ ws) k refl
-      ∙ head_step-moves W.varType t (s ∷ c ∷ m ∷ ws) (W.goes W.varSize) (on _ _ y)
-      ∙ head_step-moves W.varSize s (c ∷ m ∷ ws) (W.goes (W.var_code j)) (ap size_step z)
+      declaration-step (W.goes W.var_type) w (t ∷ s ∷ c ∷ m ∷ ws) k refl
+      ∙ head_step-moves W.var_type t (s ∷ c ∷ m ∷ ws) (W.goes W.var_size) (on _ _ y)
+      ∙ head_step-moves W.var_size s (c ∷ m ∷ ws) (W.goes (W.var_code j)) (ap size_step z)
       ∙ head_step-moves (W.var_code j) c (m ∷ ws) (W.goes (W.var_name j c.bytes)) (on _ _ i)
       ∙ head_step-moves (W.var_name j c.bytes) m ws (W.goes (W.var_index v (reference m.bytes).part)) (on _ _ o)
       ∙ index-walked v x

@@ -72,11 +72,11 @@ module _ (p : ℕ) (is : List Item) where
   HeadFrom W.declaration ds = λ ws. Dump ws ds p is
   HeadFrom W.text ds = AfterText (λ ws. Dump ws ds p is)
   HeadFrom W.scale ds = ScaleDue ds
-  HeadFrom W.scopeType ds = Then (λ w. one_of scope_types w ≡ true) (Then Name (Closed ds))
-  HeadFrom W.scopeName ds = Then Name (Closed ds)
+  HeadFrom W.scope_type ds = Then (λ w. one_of scope_types w ≡ true) (Then Name (Closed ds))
+  HeadFrom W.scope_name ds = Then Name (Closed ds)
   HeadFrom W.closing ds = Closed ds
-  HeadFrom W.varType ds = Then (λ w. one_of var_types w ≡ true) (SizeDue ds)
-  HeadFrom W.varSize ds = SizeDue ds
+  HeadFrom W.var_type ds = Then (λ w. one_of var_types w ≡ true) (SizeDue ds)
+  HeadFrom W.var_size ds = SizeDue ds
   HeadFrom (W.scale_unit k) ds = UnitDue k ds
   HeadFrom (W.var_code k) ds = CodeDue k ds
   HeadFrom (W.var_name k c) ds = NameDue k c ds
@@ -115,7 +115,7 @@ module _ (p : ℕ) (is : List Item) where
   timescale-in ds w (m ∷ ws) i h =
       ⊎_elim (λ g. glued-in g.0 ds w m ws i g.1 g.2) (λ a. unit-in a.0 ds w m ws i a.1 a.2) h
 
-  scope-in : (ds : List Declared) (w : Placed) (ws : List Placed) → Is K.scope w.bytes → HeadFrom W.scopeType ds ws → Dump (w ∷ ws) ds p is
+  scope-in : (ds : List Declared) (w : Placed) (ws : List Placed) → Is K.scope w.bytes → HeadFrom W.scope_type ds ws → Dump (w ∷ ws) ds p is
   scope-in ds w [] i h = absurd h
   scope-in ds w (t ∷ []) i h = absurd h.1
   scope-in ds w (t ∷ m ∷ []) i h = absurd h.1.1
@@ -125,7 +125,7 @@ module _ (p : ℕ) (is : List Item) where
   upscope-in ds w [] i h = absurd h
   upscope-in ds w (e ∷ ws) i h = before (λ r d. G.upscope i h.0 d) h.1
 
-  var-in : (ds : List Declared) (w : Placed) (ws : List Placed) → Is K.var w.bytes → HeadFrom W.varType ds ws → Dump (w ∷ ws) ds p is
+  var-in : (ds : List Declared) (w : Placed) (ws : List Placed) → Is K.var w.bytes → HeadFrom W.var_type ds ws → Dump (w ∷ ws) ds p is
   var-in ds w [] i h = absurd h
   var-in ds w (t ∷ []) i h = absurd h.1
   var-in ds w (t ∷ s ∷ []) i h = absurd h.1.2
@@ -196,11 +196,11 @@ module _ (p : ℕ) (is : List Item) where
   word_in W.declaration ds w ws h = declaration-in (kind_of w.bytes) ds w ws (seen w.bytes) h
   word_in W.text ds w ws h = text_in (λ m. HeadFrom m ds) W.declaration W.text w ws (is_end w.bytes) refl (λ d. d) h
   word_in W.scale ds w ws h = scale_in (scale_of w.bytes) ds w ws refl h
-  word_in W.scopeType ds w ws h = needed (one_of scope_types w.bytes) W.scopeName _ w.at ds ws h
-  word_in W.scopeName ds w ws h = needed (is_name w.bytes) W.closing _ w.at ds ws h
+  word_in W.scope_type ds w ws h = needed (one_of scope_types w.bytes) W.scope_name _ w.at ds ws h
+  word_in W.scope_name ds w ws h = needed (is_name w.bytes) W.closing _ w.at ds ws h
   word_in W.closing ds w ws h = needed (is_end w.bytes) W.declaration _ w.at ds ws h
-  word_in W.varType ds w ws h = needed (one_of var_types w.bytes) W.varSize _ w.at ds ws h
-  word_in W.varSize ds w ws h = size_in (number_of w.bytes) ds w ws refl h
+  word_in W.var_type ds w ws h = needed (one_of var_types w.bytes) W.var_size _ w.at ds ws h
+  word_in W.var_size ds w ws h = size_in (number_of w.bytes) ds w ws refl h
   word_in (W.scale_unit k) ds w ws h = scale-unit-in k (unit_in units k w.bytes) ds w ws refl h
   word_in (W.var_code k) ds w ws h = needed (is_name w.bytes) (W.var_name k w.bytes) _ w.at ds ws h
   word_in (W.var_name k c) ds w ws h = needed (is_name w.bytes) (W.var_index (variable_in k c w) (reference w.bytes).part) _ w.at ds ws h

@@ -50,8 +50,8 @@ module _ (n : ℕ) where
       → is_end e.bytes ≡ true → walk_head n W.declaration (w ∷ t ∷ m ∷ e ∷ ws) ≡ walk_head n W.declaration ws
   scope-skipped w t m e ws k h i q =
       head_step-moves n W.declaration w (t ∷ m ∷ e ∷ ws) (ap (declaration_step w.bytes) k)
-      ∙ head_step-moves n W.scopeType t (m ∷ e ∷ ws) (on _ _ h)
-      ∙ head_step-moves n W.scopeName m (e ∷ ws) (on _ _ i)
+      ∙ head_step-moves n W.scope_type t (m ∷ e ∷ ws) (on _ _ h)
+      ∙ head_step-moves n W.scope_name m (e ∷ ws) (on _ _ i)
       ∙ head_step-moves n W.closing e ws (on _ _ q)
 
   -- and its end

@@ -71,7 +71,7 @@ wide-not-end w k = ⊎_elim (λ e. absurd (clash (end-other w e) k)) (λ e. e) (
     clash o (inr v) = let z : ◌≡◌ {A = ℕ} 0 1 = cc in omega arith
 
 module _ (n : ℕ) (w c : Placed) (ws : List Placed) (k : Wide w.bytes) (h : is_name c.bytes ≡ true) where
-  item-wide : Wide w.bytes → item_step w.bytes (kind_of w.bytes) ≡ W.goes W.itemCode
+  item-wide : Wide w.bytes → item_step w.bytes (kind_of w.bytes) ≡ W.goes W.item_code
   item-wide (inl e) = ap (item_step w.bytes) e
   item-wide (inr e) = ap (item_step w.bytes) e
 
@@ -81,7 +81,7 @@ module _ (n : ℕ) (w c : Placed) (ws : List Placed) (k : Wide w.bytes) (h : is_
 
   -- a vector or a real with its code among times and changes
   pub items-wide : walk_body n W.items (w ∷ c ∷ ws) ≡ walk_body n W.items ws
-  items-wide = body-step n W.items w (c ∷ ws) (item-wide k) ∙ body-step n W.itemCode c ws (on _ _ h)
+  items-wide = body-step n W.items w (c ∷ ws) (item-wide k) ∙ body-step n W.item_code c ws (on _ _ h)
 
   -- and in a block
   pub blocks-wide : walk_body n W.in_block (w ∷ c ∷ ws) ≡ walk_body n W.in_block ws

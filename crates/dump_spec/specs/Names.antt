@@ -7,11 +7,11 @@ use Rattle.dump_spec.specs.Numbers.{is_digit}
 -- Where reading stands among indices: outside brackets, or inside them. Inside it is before a number, after its minus, among its digits, or after them.
 -- Of [msb:lsb] the names with `last` are for the second number.
 pub data Part : Type 0 where
-  outside before minus digits after lastBefore lastMinus lastDigits lastAfter wrong : Part
+  outside before minus digits after last_before last_minus last_digits last_after wrong : Part
 
 -- after a number: the colon and the second number, or the bracket that closes
 unfoldable pub after_number : ℕ → Part
-after_number b = if eqb b 93 then outside else if eqb b 58 then lastBefore else wrong
+after_number b = if eqb b 93 then outside else if eqb b 58 then last_before else wrong
 
 -- one byte more
 abbrev pub index_byte : Part → ℕ → Part
@@ -20,10 +20,10 @@ index_byte before b = if eqb b 45 then minus else if is_digit b then digits else
 index_byte minus b = if is_digit b then digits else wrong
 index_byte digits b = if is_digit b then digits else after_number b
 index_byte after b = after_number b
-index_byte lastBefore b = if eqb b 45 then lastMinus else if is_digit b then lastDigits else wrong
-index_byte lastMinus b = if is_digit b then lastDigits else wrong
-index_byte lastDigits b = if is_digit b then lastDigits else if eqb b 93 then outside else wrong
-index_byte lastAfter b = if eqb b 93 then outside else wrong
+index_byte last_before b = if eqb b 45 then last_minus else if is_digit b then last_digits else wrong
+index_byte last_minus b = if is_digit b then last_digits else wrong
+index_byte last_digits b = if is_digit b then last_digits else if eqb b 93 then outside else wrong
+index_byte last_after b = if eqb b 93 then outside else wrong
 index_byte wrong b = wrong
 
 -- White space ends a number, and may not follow a minus.
@@ -33,10 +33,10 @@ word_ends before = before
 word_ends minus = wrong
 word_ends digits = after
 word_ends after = after
-word_ends lastBefore = lastBefore
-word_ends lastMinus = wrong
-word_ends lastDigits = lastAfter
-word_ends lastAfter = lastAfter
+word_ends last_before = last_before
+word_ends last_minus = wrong
+word_ends last_digits = last_after
+word_ends last_after = last_after
 word_ends wrong = wrong
 
 -- a word more
@@ -50,10 +50,10 @@ is_wrong before = false
 is_wrong minus = false
 is_wrong digits = false
 is_wrong after = false
-is_wrong lastBefore = false
-is_wrong lastMinus = false
-is_wrong lastDigits = false
-is_wrong lastAfter = false
+is_wrong last_before = false
+is_wrong last_minus = false
+is_wrong last_digits = false
+is_wrong last_after = false
 is_wrong wrong = true
 
 -- brackets are closed
@@ -63,10 +63,10 @@ is_outside before = false
 is_outside minus = false
 is_outside digits = false
 is_outside after = false
-is_outside lastBefore = false
-is_outside lastMinus = false
-is_outside lastDigits = false
-is_outside lastAfter = false
+is_outside last_before = false
+is_outside last_minus = false
+is_outside last_digits = false
+is_outside last_after = false
 is_outside wrong = false
 
 -- ---- the word of a name

@@ -39,7 +39,7 @@ pub data Head : Type 0 where
 
 -- what is due next
 pub data HeadMode : Type 0 where
-  declaration text scale scopeType scopeName closing varType varSize : HeadMode
+  declaration text scale scope_type scope_name closing var_type var_size : HeadMode
   scale_unit : ℕ → HeadMode
   var_code : ℕ → HeadMode
   var_name : ℕ → Word → HeadMode
@@ -65,9 +65,9 @@ abbrev pub declaration_step : Word → Kind → HeadStep
 declaration_step w K.comment = goes text
 declaration_step w K.note = goes text
 declaration_step w K.timescale = goes scale
-declaration_step w K.scope = goes scopeType
+declaration_step w K.scope = goes scope_type
 declaration_step w K.upscope = goes closing
-declaration_step w K.var = goes varType
+declaration_step w K.var = goes var_type
 declaration_step w K.enddefinitions = defines
 declaration_step w K.block = breaks not_adeclaration
 declaration_step w K.vector = breaks not_adeclaration
@@ -104,11 +104,11 @@ abbrev pub head_step : HeadMode → Placed → HeadStep
 head_step declaration w = declaration_step w.bytes (kind_of w.bytes)
 head_step text w = goes (if is_end w.bytes then declaration else text)
 head_step scale w = scale_step (scale_of w.bytes)
-head_step scopeType w = needs (one_of scope_types w.bytes) scopeName wrong_scope_type
-head_step scopeName w = needs (is_name w.bytes) closing wrong_scope_name
+head_step scope_type w = needs (one_of scope_types w.bytes) scope_name wrong_scope_type
+head_step scope_name w = needs (is_name w.bytes) closing wrong_scope_name
 head_step closing w = needs (is_end w.bytes) declaration end_missing
-head_step varType w = needs (one_of var_types w.bytes) varSize wrong_var_type
-head_step varSize w = size_step (number_of w.bytes)
+head_step var_type w = needs (one_of var_types w.bytes) var_size wrong_var_type
+head_step var_size w = size_step (number_of w.bytes)
 head_step (scale_unit n) w = scale_step (unit_in units n w.bytes)
 head_step (var_code n) w = needs (is_name w.bytes) (var_name n w.bytes) wrong_var_code
 head_step (var_name n c) w = needs (is_name w.bytes) (var_index (variable_in n c w) (reference w.bytes).part) wrong_var_name
@@ -118,7 +118,7 @@ head_step (var_index v p) w = index_step v p w
 
 -- `ending` is before the `$end` of `$enddefinitions`. A code is due after the first word of a vector or a real.
 pub data BodyMode : Type 0 where
-  ending items text in_block itemCode block_code : BodyMode
+  ending items text in_block item_code block_code : BodyMode
 
 pub data BodyStep : Type 0 where
   goes : BodyMode → BodyStep
@@ -138,8 +138,8 @@ item_step w K.upscope = breaks late_declaration
 item_step w K.var = breaks late_declaration
 item_step w K.enddefinitions = breaks late_declaration
 item_step w K.block = goes in_block
-item_step w K.vector = goes itemCode
-item_step w K.real = goes itemCode
+item_step w K.vector = goes item_code
+item_step w K.real = goes item_code
 item_step w K.other = breaks (wrong_word w)
 item_step w (K.time t) = times t
 item_step w (K.change l c) = changes l c items
@@ -165,7 +165,7 @@ body_step ending w = wants (is_end w) items end_missing
 body_step items w = item_step w (kind_of w)
 body_step text w = goes (if is_end w then items else text)
 body_step in_block w = if is_end w then goes items else block_step w (kind_of w)
-body_step itemCode w = wants (is_name w) items wrong_code
+body_step item_code w = wants (is_name w) items wrong_code
 body_step block_code w = wants (is_name w) in_block wrong_code
 
 -- the end of a text of n bytes
@@ -174,7 +174,7 @@ at_end n ending = broken text_ends n
 at_end n items = done
 at_end n text = broken text_ends n
 at_end n in_block = broken text_ends n
-at_end n itemCode = broken text_ends n
+at_end n item_code = broken text_ends n
 at_end n block_code = broken text_ends n
 
 -- what a word at a place says, and what follows it

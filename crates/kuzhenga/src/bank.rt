@@ -129,8 +129,8 @@ pub extern "C" fn kuzhenga_bank_on_dma_interrupt(
     turned_back: u32,
     out: &mut [u16],
 ) -> u32
-    ensures called { (b : Buffers) → Called (fit bank.old (sized 9 out.old)) (Call.on_dma_interrupt motor (not (eqb transfer_complete 0)) (not (eqb dma_error 0)) (not (eqb turned 0)) (not (eqb turned_back 0))) b bank.old bank.new result }
-    ensures out_after { (b : Buffers) → out.new ≡ out_after (answer_of (fit bank.old (sized 9 out.old)) (state_at bank.old b) (Call.on_dma_interrupt motor (not (eqb transfer_complete 0)) (not (eqb dma_error 0)) (not (eqb turned 0)) (not (eqb turned_back 0)))) out.old }
+    ensures called { (b : Buffers) → Called (fit bank.old (sized 9 out.old)) (Call.on_dma_interrupt_call motor (not (eqb transfer_complete 0)) (not (eqb dma_error 0)) (not (eqb turned 0)) (not (eqb turned_back 0))) b bank.old bank.new result }
+    ensures out_after { (b : Buffers) → out.new ≡ out_after (answer_of (fit bank.old (sized 9 out.old)) (state_at bank.old b) (Call.on_dma_interrupt_call motor (not (eqb transfer_complete 0)) (not (eqb dma_error 0)) (not (eqb turned 0)) (not (eqb turned_back 0)))) out.old }
 {
     interrupt::on_dma_interrupt(
         bank,

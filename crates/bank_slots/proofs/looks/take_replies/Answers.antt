@@ -2,7 +2,7 @@
 -- Assumes nothing.
 use Rattle.std.proofs.Common.{ℕ, set, ap, ◌∙◌, arith, length-set}
 use Rattle.bank_slots_spec.specs.Places.{REPLIES}
-use Rattle.bank_slots_spec.proofs.LookLaws.{take-unfit, take_short, laneTold, replies-taken}
+use Rattle.bank_slots_spec.proofs.LookLaws.{take-unfit, take_short, lane_told, replies-taken}
 use Rattle.bank_slots.proofs.looks.take_replies.Goals as goal
 
 pub returns-then-bank-ne-SLOTS : goal.returns-then-bank-ne-SLOTS
@@ -33,5 +33,5 @@ returns c =
     let a = c.args in
     let first = ap (λ (b : ℕ). set a.out.now 0 b) c.bit.ensures in
     let all = replies-taken a.bank.now a.out.now c.if-bank-ne-SLOTS.false c.if-out-ne-REPLIES_SLOTS.false c.flag-held.ensures
-    (c.put_lane.ensures ∙ ap (laneTold a.bank.now a.out.now c.if-bank-ne-SLOTS.false c.if-out-ne-REPLIES_SLOTS.false c.flag-held.result REPLIES 1) first)
+    (c.put_lane.ensures ∙ ap (lane_told a.bank.now a.out.now c.if-bank-ne-SLOTS.false c.if-out-ne-REPLIES_SLOTS.false c.flag-held.result REPLIES 1) first)
     c.put_lane-2.ensures c.put_lane-3.ensures c.put_lane-4.ensures in record { called = all.0; out_after = all.1 }

@@ -3,18 +3,18 @@
 use Rattle.std.proofs.Common.{not, [], sym, refl, ap, ◌∙◌, arith, eq-eqb, ne_eqb}
 use Rattle.dshot_bank_spec.proofs.LaneLaws.{on, off}
 use Rattle.dshot_bank_spec.specs.Order.{stop_frame, begin_receive, end_receive}
-use Rattle.dshot_bank_spec.specs.Interrupt.{afterLane}
+use Rattle.dshot_bank_spec.specs.Interrupt.{after_lane}
 use Rattle.dshot_bank.proofs.InterruptLaws.{quiet_none, quiet-latched, quiet-paused, quiet_then, settled, by-handled, by-latched}
 use Rattle.dshot_bank.proofs.Core.after_lane.Goals as goal
 
 pub returns-then-self-ne-ALL_MOTORS_COMPLETE : goal.returns-then-self-ne-ALL_MOTORS_COMPLETE
-unfolding afterLane
+unfolding after_lane
 returns-then-self-ne-ALL_MOTORS_COMPLETE c = λ motor begins.
     settled (on _ _ (ap not (ne_eqb _ 15 c.if-self-ne-ALL_MOTORS_COMPLETE.true)) refl)
     (by-handled c.handled.ensures begins refl (quiet-paused motor [] quiet_none))
 
 pub returns-then-turned : goal.returns-then-turned
-unfolding afterLane
+unfolding after_lane
 returns-then-turned c = λ motor begins.
     let d = c in
     let e = d in
@@ -24,7 +24,7 @@ returns-then-turned c = λ motor begins.
     (quiet_then motor begin_receive _ (record { small = omega arith; order = refl }) refl quiet_none))
 
 pub returns-then-opens_window : goal.returns-then-opens_window
-unfolding afterLane
+unfolding after_lane
 returns-then-opens_window c = λ motor begins.
     let d = c in
     let e = d in
@@ -34,7 +34,7 @@ returns-then-opens_window c = λ motor begins.
     (quiet_then motor begin_receive _ (record { small = omega arith; order = refl }) refl quiet-latched))
 
 pub returns-then-turned_back : goal.returns-then-turned_back
-unfolding afterLane
+unfolding after_lane
 returns-then-turned_back c = λ motor begins.
     let d = c in
     let e = d in
@@ -44,7 +44,7 @@ returns-then-turned_back c = λ motor begins.
     (quiet_then motor end_receive _ (record { small = omega arith; order = refl }) refl quiet_none))
 
 pub returns-then-self : goal.returns-then-self
-unfolding afterLane
+unfolding after_lane
 returns-then-self c = λ motor begins.
     let d = c in
     let e = d in
@@ -54,7 +54,7 @@ returns-then-self c = λ motor begins.
     (quiet_then motor end_receive _ (record { small = omega arith; order = refl }) refl quiet-latched))
 
 pub returns : goal.returns
-unfolding afterLane
+unfolding after_lane
 returns c = λ motor begins.
     let d = c in
     let e = d in

@@ -3,13 +3,13 @@
 use Rattle.std.proofs.Common.{[], refl, ap}
 use Rattle.dshot_bank_spec.proofs.LaneLaws.{on, off}
 use Rattle.dshot_bank_spec.specs.State.{Core}
-use Rattle.dshot_bank_spec.specs.Interrupt.{afterLane, onDmaInterrupt}
+use Rattle.dshot_bank_spec.specs.Interrupt.{after_lane, on_dma_interrupt}
 use Rattle.dshot_bank.specs.States.{motor_of}
 use Rattle.dshot_bank.proofs.InterruptLaws.{bit-there, bit-missing, quiet_none, quiet-paused, settled, by-handled, by-paused}
 use Rattle.dshot_bank.proofs.Core.on_dma_interrupt.Goals as goal
 
 pub returns-then-self : goal.returns-then-self
-unfolding onDmaInterrupt
+unfolding on_dma_interrupt
 returns-then-self c =
     let p = c in
     let m = p.args.motor in
@@ -18,7 +18,7 @@ returns-then-self c =
     (by-handled c.handled.ensures begins refl (quiet-paused m [] quiet_none))
 
 pub returns-then-not-self : goal.returns-then-not-self
-unfolding onDmaInterrupt
+unfolding on_dma_interrupt
 returns-then-not-self c =
     let b = c in
     let p = b in
@@ -28,7 +28,7 @@ returns-then-not-self c =
     (by-paused m c.latched.ensures begins)
 
 pub returns-then-self-completion_bit-ne0 : goal.returns-then-self-completion_bit-ne0
-unfolding onDmaInterrupt
+unfolding on_dma_interrupt
 returns-then-self-completion_bit-ne0 c =
     let k = c in
     let b = k in
@@ -41,7 +41,7 @@ returns-then-self-completion_bit-ne0 c =
     (by-paused m c.latched-then-self-completion_bit-ne0.ensures begins)
 
 pub returns-then-dma_error : goal.returns-then-dma_error
-unfolding onDmaInterrupt
+unfolding on_dma_interrupt
 returns-then-dma_error c =
     let k = c in
     let b = k in
@@ -54,7 +54,7 @@ returns-then-dma_error c =
     (by-paused m c.latched-then-dma_error.ensures begins)
 
 pub returns-then-not-transfer_complete : goal.returns-then-not-transfer_complete
-unfolding onDmaInterrupt
+unfolding on_dma_interrupt
 returns-then-not-transfer_complete c =
     let k = c in
     let b = k in
@@ -72,7 +72,7 @@ after_lane-requires c =
     (p.paused-paused.ensures.0, p.paused-paused.ensures.1)
 
 pub returns : goal.returns
-unfolding onDmaInterrupt afterLane
+unfolding on_dma_interrupt after_lane
 returns c =
     let k = c in
     let b = k in
@@ -82,5 +82,5 @@ returns c =
     let begins = p.paused-paused.ensures.2 in
     let bit = bit-missing a.self.frame.completion_mask k.completion_bit.result (motor_of m) k.completion_bit.ensures c.if-self-completion_bit-ne0.false in
     settled (off _ _ b.if-self.false (off _ _ k.if-not-self.false (off _ _ bit (off _ _ c.if-dma_error.false (off _ _ c.if-not-transfer_complete.false-raw
-    (ap (λ (s : Core). afterLane 4 (motor_of m) a.transfer_complete a.dma_error a.turned a.turned_back s) c.lane_done.ensures))))))
+    (ap (λ (s : Core). after_lane 4 (motor_of m) a.transfer_complete a.dma_error a.turned a.turned_back s) c.lane_done.ensures))))))
     (c.after_lane.ensures m begins)

@@ -1,7 +1,7 @@
 -- `dshot_bank::DshotBank::on_dma_interrupt` meets its contract: the interrupt of the lane's motor, or a refusal with no orders.
 -- Assumes nothing.
 use Rattle.std.proofs.Common.{ℕ, [], replicate, sym, refl, ap, ◌∙◌}
-use Rattle.dshot_bank_spec.specs.Calls.{refused, on_dma_interrupt}
+use Rattle.dshot_bank_spec.specs.Calls.{refused, on_dma_interrupt_call}
 use Rattle.dshot_bank_spec.specs.Steps.{port_refusal}
 use Rattle.dshot_reply_spec.specs.Refusals.{no_such_motor}
 use Rattle.dshot_bank.specs.States.{motor_of, choice_of}
@@ -21,7 +21,7 @@ returns-in-Some c =
     let h = d.on_dma_interrupt-handled.ensures in
     record {
       b_value = λ b. stepped-so a.self b (motor_of m) a.transfer_complete a.dma_error a.turned a.turned_back h
-          ∙ found-step _ (λ (i : ℕ). on_dma_interrupt i a.transfer_complete a.dma_error a.turned a.turned_back) (λ i. refl) _ m found;
+          ∙ found-step _ (λ (i : ℕ). on_dma_interrupt_call i a.transfer_complete a.dma_error a.turned a.turned_back) (λ i. refl) _ m found;
       just = just_so h;
     }
 
@@ -31,4 +31,4 @@ returns-in-None c =
     let f = c in
     let a = f.args in
     let missing = sym (ap choice_of c.in-None.is) ∙ f.from_index.ensures in
-    record { b_value = λ b. missing-step _ (λ (i : ℕ). on_dma_interrupt i a.transfer_complete a.dma_error a.turned a.turned_back) (λ i. refl) _ missing; just = just c.none.result (replicate 4 0) [] (refused no_such_motor) c.none.ensures.2 refl refl }
+    record { b_value = λ b. missing-step _ (λ (i : ℕ). on_dma_interrupt_call i a.transfer_complete a.dma_error a.turned a.turned_back) (λ i. refl) _ missing; just = just c.none.result (replicate 4 0) [] (refused no_such_motor) c.none.ensures.2 refl refl }

@@ -5,14 +5,14 @@ use Rattle.dshot_bank.proofs.OrderLaws.{whole-none}
 use Rattle.dshot_bank_spec.proofs.LaneLaws.{on, off}
 use Rattle.dshot_bank_spec.specs.State.{Core, Buffers}
 use Rattle.dshot_bank_spec.specs.Commands.{clear_request_sent}
-use Rattle.dshot_bank_spec.specs.Service.{demand_expired, expire_lease, service_busy, replies_read, read_replies, skipped, unsent, sending, serviceCore}
+use Rattle.dshot_bank_spec.specs.Service.{demand_expired, expire_lease, service_busy, replies_read, read_replies, skipped, unsent, sending, service_core}
 use Rattle.dshot_bank_spec.specs.Service as Spec
 use Rattle.dshot_bank.specs.States.{core_of, replies_of}
 use Rattle.dshot_bank.specs.Serves.{Serves}
 use Rattle.dshot_bank.proofs.DshotBank.service_lanes.Goals as goal
 
 pub returns-then-core : goal.returns-then-core
-unfolding serviceCore
+unfolding service_core
 returns-then-core c =
     let a = c.args in
     let k = core_of a.self.core in
@@ -24,7 +24,7 @@ returns-then-core c =
     (record { event = refl; orders = c.none.ensures.2; duties = refl; whole = whole-none; core = cleared }))
 
 pub returns-then-core-2 : goal.returns-then-core-2
-unfolding serviceCore
+unfolding service_core
 returns-then-core-2 c =
     let a = c.args in
     let k = core_of a.self.core in
@@ -43,7 +43,7 @@ pub send-requires : goal.send-requires
 send-requires c = (c.requires.0, c.requires.1)
 
 pub returns : goal.returns
-unfolding serviceCore
+unfolding service_core
 returns c =
     let a = c.args in
     let k = core_of a.self.core in

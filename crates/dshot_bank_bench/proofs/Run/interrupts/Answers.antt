@@ -1,7 +1,7 @@
 -- `dshot_bank_bench::Run::interrupts` meets its contract: before each turn of the loop the run is after the interrupts so far.
 -- Assumes nothing.
 use Rattle.std.proofs.Common.{◌≡◌, ◌%◌, true, false, sym, refl, ap, ◌∙◌, arith, rules}
-use Rattle.dshot_bank_spec.specs.Calls.{on_dma_interrupt}
+use Rattle.dshot_bank_spec.specs.Calls.{on_dma_interrupt_call}
 use Rattle.dshot_bank_bench.specs.Cycles.{Run, after, interrupts}
 use Rattle.dshot_bank_bench.proofs.CycleLaws.{interrupts-more}
 use Rattle.dshot_bank_bench.proofs.Run.interrupts.Goals as goal
@@ -14,7 +14,7 @@ pub loop-i-preserved : goal.loop-i-preserved
 loop-i-preserved c =
     let l = c.loop-i in (
       omega arith,
-      λ b. c.interrupt-run.ensures b ∙ ap (λ (r : Run). after r (on_dma_interrupt (l.i % 4) true false true true)) (l.invariant.1 b) ∙ sym (interrupts-more l.i _),
+      λ b. c.interrupt-run.ensures b ∙ ap (λ (r : Run). after r (on_dma_interrupt_call (l.i % 4) true false true true)) (l.invariant.1 b) ∙ sym (interrupts-more l.i _),
     )
 
 pub returns : goal.returns
