@@ -25,7 +25,7 @@ pub(crate) fn buffer(to: Stdout) -> Out {
 }
 
 // Writes the first `at` bytes. There are never more than the buffer has.
-fn write(out: &mut Out, at: usize) {
+pub fn write(out: &mut Out, at: usize) {
     if at <= BYTES {
         let all: &[u8] = &out.bytes;
         if let Err(error) = out.to.write_all(&all[0..at]) {
