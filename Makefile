@@ -48,7 +48,7 @@ proved := crates.txt $(shell find $(wildcard $(foreach part,src specs proofs,$(c
 
 $(archive): $(proved)
 	@command -v rt >/dev/null || { echo 'rt, the toolchain, is not found; ARCHIVE=FOLDER does without it' >&2; exit 1; }
-	cd crates/kuzhenga_c && rt lib
+	cd crates/kuzhenga_c && rt lib --cpu x86-64
 	@mkdir -p $(@D)
 	cp crates/kuzhenga_c/out/libkuzhenga_c.a $@
 

@@ -71,6 +71,7 @@ fn count_reply(state: &mut [u16], k: usize, read: ReplyRead)
 
 // Reads and counts the window of a lane whose slots begin at `k`. Extended telemetry is not enabled yet, so every value except its acknowledgement is
 // read as eRPM.
+#[inline(always)]
 fn decode_lane(state: &mut [u16], k: usize, lane: usize, lanes: &[u16], captures: &[u16])
     requires { (k + 8 < length state.old) × (lane < 4) × (length lanes.now ≡ 12) × (length captures.now ≡ 160 * 4) }
     ensures { state.new ≡ write (lane_rows k (count_reply (read_window (Load.flag (slice_index lanes.now (4 + lane))) (window captures.now lane) (slice_index lanes.now (8 + lane))) (lane_from k (at state.old)))) state.old }

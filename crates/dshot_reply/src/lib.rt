@@ -438,6 +438,7 @@ fn read_word(transitions: u32, extended_telemetry: bool) -> ReplyRead
 }
 
 // Every layer at once: pin samples to a reply.
+#[inline(always)]
 pub fn decode_sampled_reply(samples: &[u16], pin_mask: u16, extended_telemetry: bool) -> ReplyRead
     ensures { reply_answer result ≡ sampled_reply 3 samples.now pin_mask extended_telemetry }
 {
