@@ -6,7 +6,7 @@ use itoa::Buffer;
 use std::io;
 use std::io::{Error, Stdout};
 
-const BYTES: usize = 65536;
+pub const BYTES: usize = 65536;
 
 // The buffer, where it is written, and why the first write that failed did.
 #[derive(Drop)]
@@ -25,7 +25,7 @@ pub(crate) fn buffer(to: Stdout) -> Out {
 }
 
 // Writes the first `at` bytes. There are never more than the buffer has.
-pub fn write(out: &mut Out, at: usize) {
+pub(crate) fn write(out: &mut Out, at: usize) {
     if at <= BYTES {
         let all: &[u8] = &out.bytes;
         if let Err(error) = out.to.write_all(&all[0..at]) {
