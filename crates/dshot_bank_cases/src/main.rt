@@ -26,14 +26,13 @@ mod sets;
 mod slots;
 mod widths;
 
-ghost use Rattle.std.specs.Io.{ReadsAtMost};
-
 use crate::slots::ROOM;
+use case_text::input::read_full;
 use case_text::numbers::find;
 use case_text::widths::one_more;
 use dshot_bank::DshotBank;
 use std::io;
-use std::io::{Read, Stdout};
+use std::io::Stdout;
 
 const MOST_BYTES: usize = 65536;
 
@@ -66,21 +65,6 @@ fn run_list(to: Stdout, text: &[u8]) -> io::Result<()> {
         at = next;
     }
     put::finish(&mut out, filled)
-}
-
-// Reads until the buffer is full or the input ends, and answers how many bytes at its start were read.
-fn read_full<R: Read>(reader: &mut R, buffer: &mut [u8]) -> io::Result<usize>
-    ensures { ReadsAtMost result buffer.new }
-{
-    let mut done = 0;
-    while done < buffer.len() {
-        let more = reader.read(&mut buffer[done..])?;
-        if more == 0 {
-            break;
-        }
-        done += more;
-    }
-    Ok(done)
 }
 
 fn main(rt: HostRuntime) -> io::Result<()> {

@@ -19,14 +19,13 @@ mod sequences;
 mod verdict;
 
 ghost use Rattle.std.specs.Prelude.{◌≡◌, length};
-ghost use Rattle.std.specs.Io.{ReadsAtMost};
 
 use crate::report::KINDS;
 use crate::verdict::Verdict;
+use case_text::input::read_full;
 use case_text::numbers::find;
 use case_text::widths::one_more;
 use std::io;
-use std::io::Read;
 
 const MOST_BYTES: usize = 131072;
 
@@ -69,21 +68,6 @@ fn buffer() -> [u8; MOST_BYTES]
     ensures { 131072 ≡ length result }
 {
     [0; MOST_BYTES]
-}
-
-// Reads until the buffer is full or the input ends, and answers how many bytes at its start were read.
-fn read_full<R: Read>(reader: &mut R, buffer: &mut [u8]) -> io::Result<usize>
-    ensures { ReadsAtMost result buffer.new }
-{
-    let mut done = 0;
-    while done < buffer.len() {
-        let more = reader.read(&mut buffer[done..])?;
-        if more == 0 {
-            break;
-        }
-        done += more;
-    }
-    Ok(done)
 }
 
 fn main(rt: HostRuntime) -> io::Result<()> {

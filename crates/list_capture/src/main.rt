@@ -39,7 +39,7 @@ fn main(rt: HostRuntime) {
 
 // Whether there is an argument of this number. The program's own name is number 0.
 fn is_given(rt: &impl Env, number: usize) -> bool {
-    match rt.arg(number, &mut [0; MOST_NAME]) {
+    match rt.arg(number, &mut []) {
         Ok(_) => true,
         Err(FillError::TooLong) => true,
         Err(FillError::NotPresent) => false,
