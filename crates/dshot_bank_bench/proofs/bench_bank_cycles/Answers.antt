@@ -21,27 +21,22 @@ returns-then-not-lengths_fit c =
 
 pub cycles_from-run-requires : goal.cycles_from-run-requires
 cycles_from-run-requires c =
-    let d = c in
-    let fits = lengths-of _ _ _ _ _ (sym d.lengths_fit.ensures ∙ not-false _ d.if-not-lengths_fit.false-raw) in
+    let fits = lengths-of _ _ _ _ _ (sym c.lengths_fit.ensures ∙ not-false _ c.if-not-lengths_fit.false-raw) in
     (fits.0, omega arith)
 
 pub put_counts-requires : goal.put_counts-requires
 put_counts-requires c =
-    let d = c in
-    (lengths-of _ _ _ _ _ (sym d.lengths_fit.ensures ∙ not-false _ d.if-not-lengths_fit.false-raw)).1
+    (lengths-of _ _ _ _ _ (sym c.lengths_fit.ensures ∙ not-false _ c.if-not-lengths_fit.false-raw)).1
 
 pub returns : goal.returns
 unfolding asked
 returns c =
-    let r = c in
-    let e = r in
-    let d = e in
-    let a = d.args in
+    let a = c.args in
     let b : Buffers = record { first = a.first.now; second = a.second.now } in
     let n = length a.captures.now / 640 in
-    let fits = sym d.lengths_fit.ensures ∙ not-false _ d.if-not-lengths_fit.false-raw in
+    let fits = sym c.lengths_fit.ensures ∙ not-false _ c.if-not-lengths_fit.false-raw in
     let went = cycles (not (eqb a.present 0)) a.mask a.interrupts a.throttles.now a.captures.now in
-    let done = r.cycles_from-run.ensures ∙ ap (λ (s : Run). went s n) (e.new_run-start.ensures b) in
+    let done = c.cycles_from-run.ensures ∙ ap (λ (s : Run). went s n) (c.new_run-start.ensures b) in
     let told =
     asked a.arr a.zero_high a.one_high a.reply_sample_arr a.bidirectional a.present a.mask a.interrupts a.throttles.now
     a.captures.now a.first.now a.second.now a.counts.now in

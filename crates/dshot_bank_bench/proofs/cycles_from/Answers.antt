@@ -11,25 +11,22 @@ loop-n-init c = (search rules, (refl, (refl, refl)))
 
 pub overflow_add-n : goal.overflow_add-n
 overflow_add-n c =
-    let t = c in
-    record { fits = omega (arith, t.loop-n-test.true, t.ranges.cycles) }
+    record { fits = omega (arith, c.loop-n-test.true, c.ranges.cycles) }
 
 pub loop-n-preserved : goal.loop-n-preserved
 loop-n-preserved c =
-    let d = c in
-    let t = d in
-    let l = t.loop-n in
-    let a = t.args in
+    let l = c.loop-n in
+    let a = c.args in
     let n = l.n in
     let xs = a.captures.now in
     let four = throttles_at a.throttles.now n in
     let k : 640 * n + 640 - 640 * n ≡ 640 = omega arith in (
-      omega (arith, t.loop-n-test.true),
+      omega (arith, c.loop-n-test.true),
       (
         search rules,
         (
           search rules,
-          d.cycle-run.ensures
+          c.cycle-run.ensures
               ∙ (λ j. cycle four a.present a.mask (take (k j) (drop (640 * n) xs)) a.interrupts n (l.invariant.1.1.1 j))
               ∙ sym (cycles-more a.present a.mask a.interrupts a.throttles.now xs _ n),
         ),

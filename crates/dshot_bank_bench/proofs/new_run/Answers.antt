@@ -8,9 +8,8 @@ use Rattle.dshot_bank_bench.proofs.new_run.Goals as goal
 
 pub returns : goal.returns
 returns c b =
-    let e = c in
-    let a = e.args in
+    let a = c.args in
     let begun =
-    ap (λ (x : Stepped). x.state) (e.enable_bidirectional-enabled.ensures b)
-    ∙ ap (λ (k : Bank). (step 4 (record { bank = k; buffers = b }) (enable_bidirectional_call (not (eqb a.bidirectional 0)))).state) e.from_lanes.ensures in
+    ap (λ (x : Stepped). x.state) (c.enable_bidirectional-enabled.ensures b)
+    ∙ ap (λ (k : Bank). (step 4 (record { bank = k; buffers = b }) (enable_bidirectional_call (not (eqb a.bidirectional 0)))).state) c.from_lanes.ensures in
     ap (λ (s : State). record { state = s; sum = 0 }) begun

@@ -24,48 +24,32 @@ symbol_nibble-d-requires c = ((symbol_nibble-a-requires c.before.before.before.b
 
 pub returns-then-a-b-gt45 : goal.returns-then-a-b-gt45
 returns-then-a-b-gt45 c =
-    let e = c in
-    let d = e in
-    let b = d in
-    let a = b in
-    let w = a.args.transitions in
+    let w = c.args.transitions in
     sym
-    (decode-three w a.symbol_nibble-a.result b.symbol_nibble-b.result d.symbol_nibble-c.result e.symbol_nibble-d.result
-    a.symbol_nibble-a.ensures.0 b.symbol_nibble-b.ensures.0 d.symbol_nibble-c.ensures.0 e.symbol_nibble-d.ensures.0
+    (decode-three w c.symbol_nibble-a.result c.symbol_nibble-b.result c.symbol_nibble-c.result c.symbol_nibble-d.result
+    c.symbol_nibble-a.ensures.0 c.symbol_nibble-b.ensures.0 c.symbol_nibble-c.ensures.0 c.symbol_nibble-d.ensures.0
     c.if-a-b-gt45.true)
 
 pub returns-then-a-b-eq15 : goal.returns-then-a-b-eq15
 returns-then-a-b-eq15 c =
-    let e = c in
-    let d = e in
-    let b = d in
-    let a = b in
-    let w = a.args.transitions in
+    let w = c.args.transitions in
     sym
-    (decode-value w a.symbol_nibble-a.result b.symbol_nibble-b.result d.symbol_nibble-c.result e.symbol_nibble-d.result
-    a.symbol_nibble-a.ensures.0 b.symbol_nibble-b.ensures.0 d.symbol_nibble-c.ensures.0 e.symbol_nibble-d.ensures.0
+    (decode-value w c.symbol_nibble-a.result c.symbol_nibble-b.result c.symbol_nibble-c.result c.symbol_nibble-d.result
+    c.symbol_nibble-a.ensures.0 c.symbol_nibble-b.ensures.0 c.symbol_nibble-c.ensures.0 c.symbol_nibble-d.ensures.0
     c.if-a-b-gt45.false c.if-a-b-eq15.true)
 
 pub returns-then-d-gt15 : goal.returns-then-d-gt15
 returns-then-d-gt15 c =
-    let e = c in
-    let d = e in
-    let b = d in
-    let a = b in
-    let w = a.args.transitions in
+    let w = c.args.transitions in
     sym
-    (decode-last w a.symbol_nibble-a.result b.symbol_nibble-b.result d.symbol_nibble-c.result e.symbol_nibble-d.result
-    a.symbol_nibble-a.ensures.0 b.symbol_nibble-b.ensures.0 d.symbol_nibble-c.ensures.0 e.symbol_nibble-d.ensures.0
+    (decode-last w c.symbol_nibble-a.result c.symbol_nibble-b.result c.symbol_nibble-c.result c.symbol_nibble-d.result
+    c.symbol_nibble-a.ensures.0 c.symbol_nibble-b.ensures.0 c.symbol_nibble-c.ensures.0 c.symbol_nibble-d.ensures.0
     c.if-d-gt15.true)
 
 pub returns : goal.returns
 returns c =
-    let e = c in
-    let d = e in
-    let b = d in
-    let a = b in
-    let w = a.args.transitions in
+    let w = c.args.transitions in
     sym
-    (decode-unequal w a.symbol_nibble-a.result b.symbol_nibble-b.result d.symbol_nibble-c.result e.symbol_nibble-d.result
-    a.symbol_nibble-a.ensures.0 b.symbol_nibble-b.ensures.0 d.symbol_nibble-c.ensures.0 e.symbol_nibble-d.ensures.0
+    (decode-unequal w c.symbol_nibble-a.result c.symbol_nibble-b.result c.symbol_nibble-c.result c.symbol_nibble-d.result
+    c.symbol_nibble-a.ensures.0 c.symbol_nibble-b.ensures.0 c.symbol_nibble-c.ensures.0 c.symbol_nibble-d.ensures.0
     (omega arith) c.if-a-b-eq15.false)

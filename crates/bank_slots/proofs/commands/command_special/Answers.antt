@@ -23,32 +23,23 @@ returns-then-motor-ge-LANES c =
 
 pub returns-then-flag : goal.returns-then-flag
 returns-then-flag c =
-    let v = c in
-    let a = v.args in
-    let all = with-answer (λ b. special-faulted a.bank.now b v.if-bank-ne-SLOTS.false a.motor a.sequence.now v.if-sequence-ne4.false v.if-motor-ge-LANES.false (sym c.flag.ensures ∙ c.if-flag.true)) in record { value = all.0; called = all.1 }
+    let a = c.args in
+    let all = with-answer (λ b. special-faulted a.bank.now b c.if-bank-ne-SLOTS.false a.motor a.sequence.now c.if-sequence-ne4.false c.if-motor-ge-LANES.false (sym c.flag.ensures ∙ c.if-flag.true)) in record { value = all.0; called = all.1 }
 
 pub returns-then-is_running : goal.returns-then-is_running
 returns-then-is_running c =
-    let u = c in
-    let v = u in
-    let a = v.args in
-    let all = with-answer (λ b. special-running a.bank.now b v.if-bank-ne-SLOTS.false a.motor a.sequence.now v.if-sequence-ne4.false v.if-motor-ge-LANES.false (sym u.flag.ensures ∙ u.if-flag.false)
+    let a = c.args in
+    let all = with-answer (λ b. special-running a.bank.now b c.if-bank-ne-SLOTS.false a.motor a.sequence.now c.if-sequence-ne4.false c.if-motor-ge-LANES.false (sym c.flag.ensures ∙ c.if-flag.false)
     (sym c.is_running.ensures ∙ c.if-is_running.true)) in record { value = all.0; called = all.1 }
 
 pub returns-then-bank-ne0 : goal.returns-then-bank-ne0
 returns-then-bank-ne0 c =
-    let t = c in
-    let u = t in
-    let v = u in
-    let a = v.args in
-    let all = with-answer (λ b. special-pending a.bank.now b v.if-bank-ne-SLOTS.false a.motor a.sequence.now v.if-sequence-ne4.false v.if-motor-ge-LANES.false (sym u.flag.ensures ∙ u.if-flag.false)
-    (sym t.is_running.ensures ∙ t.if-is_running.false) c.if-bank-ne0.true) in record { value = all.0; called = all.1 }
+    let a = c.args in
+    let all = with-answer (λ b. special-pending a.bank.now b c.if-bank-ne-SLOTS.false a.motor a.sequence.now c.if-sequence-ne4.false c.if-motor-ge-LANES.false (sym c.flag.ensures ∙ c.if-flag.false)
+    (sym c.is_running.ensures ∙ c.if-is_running.false) c.if-bank-ne0.true) in record { value = all.0; called = all.1 }
 
 pub returns : goal.returns
 returns c =
-    let t = c in
-    let u = t in
-    let v = u in
-    let a = v.args in
-    let all = with-answer (λ b. special-queued a.bank.now b v.if-bank-ne-SLOTS.false a.motor a.sequence.now v.if-sequence-ne4.false v.if-motor-ge-LANES.false (sym u.flag.ensures ∙ u.if-flag.false)
-    (sym t.is_running.ensures ∙ t.if-is_running.false) c.if-bank-ne0.false c.queue.ensures) in record { value = all.0; called = all.1 }
+    let a = c.args in
+    let all = with-answer (λ b. special-queued a.bank.now b c.if-bank-ne-SLOTS.false a.motor a.sequence.now c.if-sequence-ne4.false c.if-motor-ge-LANES.false (sym c.flag.ensures ∙ c.if-flag.false)
+    (sym c.is_running.ensures ∙ c.if-is_running.false) c.if-bank-ne0.false c.queue.ensures) in record { value = all.0; called = all.1 }

@@ -18,34 +18,23 @@ returns-then-commands-ne-LANES c =
 
 pub returns-then-flag : goal.returns-then-flag
 returns-then-flag c =
-    let v = c in
-    let a = v.args in
-    let all = with-answer (λ b. throttles-faulted a.bank.now b v.if-bank-ne-SLOTS.false a.commands.now a.now_ms a.lease_duration_ms v.if-commands-ne-LANES.false (sym c.flag.ensures ∙ c.if-flag.true)) in record { value = all.0; called = all.1 }
+    let a = c.args in
+    let all = with-answer (λ b. throttles-faulted a.bank.now b c.if-bank-ne-SLOTS.false a.commands.now a.now_ms a.lease_duration_ms c.if-commands-ne-LANES.false (sym c.flag.ensures ∙ c.if-flag.true)) in record { value = all.0; called = all.1 }
 
 pub returns-then-any_above : goal.returns-then-any_above
 returns-then-any_above c =
-    let u = c in
-    let v = u in
-    let a = v.args in
-    let all = with-answer (λ b. throttles-high a.bank.now b v.if-bank-ne-SLOTS.false a.commands.now a.now_ms a.lease_duration_ms v.if-commands-ne-LANES.false (sym u.flag.ensures ∙ u.if-flag.false)
+    let a = c.args in
+    let all = with-answer (λ b. throttles-high a.bank.now b c.if-bank-ne-SLOTS.false a.commands.now a.now_ms a.lease_duration_ms c.if-commands-ne-LANES.false (sym c.flag.ensures ∙ c.if-flag.false)
     (sym c.any_above.ensures ∙ c.if-any_above.true)) in record { value = all.0; called = all.1 }
 
 pub returns-then-not-any_above : goal.returns-then-not-any_above
 returns-then-not-any_above c =
-    let s = c in
-    let t = s in
-    let u = t in
-    let v = u in
-    let a = v.args in
-    let all = with-answer (λ b. throttles-stop a.bank.now b v.if-bank-ne-SLOTS.false a.commands.now a.now_ms a.lease_duration_ms v.if-commands-ne-LANES.false (sym u.flag.ensures ∙ u.if-flag.false)
-    (sym t.any_above.ensures ∙ t.if-any_above.false) (ap not (sym s.any_above-2.ensures) ∙ s.if-not-any_above.true-raw) c.stop.ensures) in record { value = all.0; called = all.1 }
+    let a = c.args in
+    let all = with-answer (λ b. throttles-stop a.bank.now b c.if-bank-ne-SLOTS.false a.commands.now a.now_ms a.lease_duration_ms c.if-commands-ne-LANES.false (sym c.flag.ensures ∙ c.if-flag.false)
+    (sym c.any_above.ensures ∙ c.if-any_above.false) (ap not (sym c.any_above-2.ensures) ∙ c.if-not-any_above.true-raw) c.stop.ensures) in record { value = all.0; called = all.1 }
 
 pub returns : goal.returns
 returns c =
-    let s = c in
-    let t = s in
-    let u = t in
-    let v = u in
-    let a = v.args in
-    let all = with-answer (λ b. throttled a.bank.now b v.if-bank-ne-SLOTS.false a.commands.now a.now_ms a.lease_duration_ms v.if-commands-ne-LANES.false (sym u.flag.ensures ∙ u.if-flag.false)
-    (sym t.any_above.ensures ∙ t.if-any_above.false) (ap not (sym s.any_above-2.ensures) ∙ s.if-not-any_above.false-raw) c.demand.ensures) in record { value = all.0; called = all.1 }
+    let a = c.args in
+    let all = with-answer (λ b. throttled a.bank.now b c.if-bank-ne-SLOTS.false a.commands.now a.now_ms a.lease_duration_ms c.if-commands-ne-LANES.false (sym c.flag.ensures ∙ c.if-flag.false)
+    (sym c.any_above.ensures ∙ c.if-any_above.false) (ap not (sym c.any_above-2.ensures) ∙ c.if-not-any_above.false-raw) c.demand.ensures) in record { value = all.0; called = all.1 }

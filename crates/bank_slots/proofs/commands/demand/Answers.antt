@@ -9,13 +9,10 @@ use Rattle.bank_slots.proofs.commands.demand.Goals as goal
 
 pub returns : goal.returns
 returns c =
-    let v = c in
-    let t = v in
-    let s = c in
-    let a = s.args in
+    let a = c.args in
     let given = four (at a.commands.now) in
-    let values = v.put_long.ensures
-    ∙ ap (λ (n : ℕ). write (long_rows VALUES n) a.bank.now) (v.joined_long.ensures ∙ ap joined_of t.throttles_to_dshot-values.ensures)
+    let values = c.put_long.ensures
+    ∙ ap (λ (n : ℕ). write (long_rows VALUES n) a.bank.now) (c.joined_long.ensures ∙ ap joined_of c.throttles_to_dshot-values.ensures)
     ∙ ap (λ (rows : List Row). write rows a.bank.now) (values-joined given) in
-    demand-parts _ a.commands.now _ _ s.requires.0 (omega (arith, s.ranges.now_ms)) (omega (arith, s.ranges.lease_duration_ms)) refl
+    demand-parts _ a.commands.now _ _ c.requires.0 (omega (arith, c.ranges.now_ms)) (omega (arith, c.ranges.lease_duration_ms)) refl
     (c.put_long-2.ensures ∙ ap (write (long_rows LEASE_STARTED a.now_ms)) values) c.put_long-3.ensures

@@ -44,6 +44,5 @@ shape_of-bank c = simp length-set (omega arith)
 
 pub returns : goal.returns
 returns c =
-    let v = c in
-    let a = v.args in
-    let all = made a.bank.now a.timing.now v.if-bank-ne-SLOTS.false v.if-timing-ne4.false (c.zero.ensures ∙ ap (λ (k : ℕ). replicate k 0) v.if-bank-ne-SLOTS.false) in record { value = all.0; bank_after = all.1 }
+    let a = c.args in
+    let all = made a.bank.now a.timing.now c.if-bank-ne-SLOTS.false c.if-timing-ne4.false (c.zero.ensures ∙ ap (λ (k : ℕ). replicate k 0) c.if-bank-ne-SLOTS.false) in record { value = all.0; bank_after = all.1 }

@@ -19,10 +19,8 @@ returns-then-flag c =
 
 pub returns-then-bank-ne0 : goal.returns-then-bank-ne0
 returns-then-bank-ne0 c =
-    let v = c in
-    let all = with-answer (λ b. request-pending _ b v.if-bank-ne-SLOTS.false _ v.if-motor-ge-LANES.false (sym c.flag.ensures ∙ c.if-flag.false) c.if-bank-ne0.true) in record { value = all.0; called = all.1 }
+    let all = with-answer (λ b. request-pending _ b c.if-bank-ne-SLOTS.false _ c.if-motor-ge-LANES.false (sym c.flag.ensures ∙ c.if-flag.false) c.if-bank-ne0.true) in record { value = all.0; called = all.1 }
 
 pub returns : goal.returns
 returns c =
-    let v = c in
-    let all = with-answer (λ b. request-taken _ b v.if-bank-ne-SLOTS.false _ v.if-motor-ge-LANES.false (sym c.flag.ensures ∙ c.if-flag.false) c.if-bank-ne0.false) in record { value = all.0; called = all.1 }
+    let all = with-answer (λ b. request-taken _ b c.if-bank-ne-SLOTS.false _ c.if-motor-ge-LANES.false (sym c.flag.ensures ∙ c.if-flag.false) c.if-bank-ne0.false) in record { value = all.0; called = all.1 }

@@ -23,7 +23,6 @@ returns-then-out-ne2 c =
 
 pub returns : goal.returns
 returns c =
-    let v = c in
-    let xs = v.args.bank.now in
-    let out = v.args.out.now in
-    record { called = λ b. sent-taken xs b v.if-bank-ne-SLOTS.false out v.if-out-ne2.false c.clear_sent.ensures; out_after = λ b. sent-told xs b v.if-bank-ne-SLOTS.false out v.if-out-ne2.false c.put_choice.ensures }
+    let xs = c.args.bank.now in
+    let out = c.args.out.now in
+    record { called = λ b. sent-taken xs b c.if-bank-ne-SLOTS.false out c.if-out-ne2.false c.clear_sent.ensures; out_after = λ b. sent-told xs b c.if-bank-ne-SLOTS.false out c.if-out-ne2.false c.put_choice.ensures }

@@ -10,5 +10,4 @@ shape_of-state c = ap length c.bump.ensures ∙ simp length-set
 
 pub returns : goal.returns
 returns c =
-    let a = c in
-    moves-at (sym c.bump.ensures) (frame-done a.args.state.now a.requires)
+    moves-at (sym c.bump.ensures) (frame-done c.args.state.now c.requires)

@@ -9,5 +9,4 @@ shape_of-state c = c.state-1.given ∙ simp length-set
 
 pub returns : goal.returns
 returns c =
-    let a = c in
-    window-closed a.args.state.now a.requires c.frame_done.ensures
+    window-closed c.args.state.now c.requires c.frame_done.ensures

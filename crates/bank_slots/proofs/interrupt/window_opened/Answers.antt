@@ -10,5 +10,4 @@ shape_of-state c = ap length c.put_word.ensures ∙ simp length-set
 
 pub returns : goal.returns
 returns c =
-    let a = c in
-    moves-at (sym c.put_word.ensures) (window-opened a.args.state.now a.requires)
+    moves-at (sym c.put_word.ensures) (window-opened c.args.state.now c.requires)

@@ -5,6 +5,5 @@ use Rattle.bank_slots.proofs.looks.is_bidirectional.Goals as goal
 
 pub returns : goal.returns
 returns c =
-    let f = c in
-    let a = f.args in
-    let all = bidirectional-told a.bank.now a.out.now (f.look_flag.ensures.value, f.look_flag.ensures.out_after) in record { value = all.0; out_after = all.1 }
+    let a = c.args in
+    let all = bidirectional-told a.bank.now a.out.now (c.look_flag.ensures.value, c.look_flag.ensures.out_after) in record { value = all.0; out_after = all.1 }

@@ -23,8 +23,6 @@ returns-then-out-ne1 c =
 
 pub returns : goal.returns
 returns c =
-    let f = c in
-    let l = f in
-    let a = l.args in
-    let e = both-fit a.bank.now a.out.now 1 l.if-bank-ne-SLOTS.false l.if-out-ne1.false in
-    record { value = on _ _ e refl; out_after = on _ _ e (filled (c.bit.result ∷ []) a.out.now l.if-out-ne1.false ∙ ap {B = List ℕ} (λ (v : ℕ). v ∷ []) (c.bit.ensures ∙ ap bit f.flag.ensures)) }
+    let a = c.args in
+    let e = both-fit a.bank.now a.out.now 1 c.if-bank-ne-SLOTS.false c.if-out-ne1.false in
+    record { value = on _ _ e refl; out_after = on _ _ e (filled (c.bit.result ∷ []) a.out.now c.if-out-ne1.false ∙ ap {B = List ℕ} (λ (v : ℕ). v ∷ []) (c.bit.ensures ∙ ap bit c.flag.ensures)) }

@@ -26,6 +26,5 @@ bounds-out-3 c = simp length-set (omega arith)
 
 pub returns : goal.returns
 returns c =
-    let l = c in
-    let a = l.args in
-    let all = values-told a.bank.now a.out.now l.if-bank-ne-SLOTS.false l.if-out-ne-LANES.false in record { value = all.0; out_after = all.1 }
+    let a = c.args in
+    let all = values-told a.bank.now a.out.now c.if-bank-ne-SLOTS.false c.if-out-ne-LANES.false in record { value = all.0; out_after = all.1 }

@@ -43,53 +43,39 @@ returns-then-out-ne-COMPARE_DMA_SLOTS c =
 
 pub returns-then-not-buffers_fit : goal.returns-then-not-buffers_fit
 returns-then-not-buffers_fit c =
-    let t = c in
-    let l = t in
-    let a = l.args in
-    let all = unfit a.bank.now a.out.now (record { first = a.first.now; second = a.second.now }) a.motor l.if-bank-ne-SLOTS.false l.if-out-ne-COMPARE_DMA_SLOTS.false (sym t.buffers_fit.ensures ∙ not-true t.buffers_fit.result c.if-not-buffers_fit.true-raw) in record { value = all.0; out_after = all.1 }
+    let a = c.args in
+    let all = unfit a.bank.now a.out.now (record { first = a.first.now; second = a.second.now }) a.motor c.if-bank-ne-SLOTS.false c.if-out-ne-COMPARE_DMA_SLOTS.false (sym c.buffers_fit.ensures ∙ not-true c.buffers_fit.result c.if-not-buffers_fit.true-raw) in record { value = all.0; out_after = all.1 }
 
 pub returns-then-motor-ge-LANES : goal.returns-then-motor-ge-LANES
 returns-then-motor-ge-LANES c =
-    let t = c in
-    let l = t in
-    let a = l.args in
-    let all = missing a.bank.now a.out.now (record { first = a.first.now; second = a.second.now }) a.motor l.if-bank-ne-SLOTS.false l.if-out-ne-COMPARE_DMA_SLOTS.false
-    (sym t.buffers_fit.ensures ∙ not-false t.buffers_fit.result c.if-not-buffers_fit.false-raw) c.if-motor-ge-LANES.true in record { value = all.0; out_after = all.1 }
+    let a = c.args in
+    let all = missing a.bank.now a.out.now (record { first = a.first.now; second = a.second.now }) a.motor c.if-bank-ne-SLOTS.false c.if-out-ne-COMPARE_DMA_SLOTS.false
+    (sym c.buffers_fit.ensures ∙ not-false c.buffers_fit.result c.if-not-buffers_fit.false-raw) c.if-motor-ge-LANES.true in record { value = all.0; out_after = all.1 }
 
 pub slice_bounds-copy-end : goal.slice_bounds-copy-end
 slice_bounds-copy-end c =
-    let d = c in
     let a = c.args in
-    let f = d.buffers_fit in
-    let n = two-fit (length a.first.now) (length a.second.now) (sym f.ensures ∙ not-false f.result d.if-not-buffers_fit.false-raw) in
+    let f = c.buffers_fit in
+    let n = two-fit (length a.first.now) (length a.second.now) (sym f.ensures ∙ not-false f.result c.if-not-buffers_fit.false-raw) in
     omega (arith, n.1)
 
 pub slice_bounds-copy-end-else-flag : goal.slice_bounds-copy-end-else-flag
 slice_bounds-copy-end-else-flag c =
-    let d = c in
     let a = c.args in
-    let f = d.buffers_fit in
-    let n = two-fit (length a.first.now) (length a.second.now) (sym f.ensures ∙ not-false f.result d.if-not-buffers_fit.false-raw) in
+    let f = c.buffers_fit in
+    let n = two-fit (length a.first.now) (length a.second.now) (sym f.ensures ∙ not-false f.result c.if-not-buffers_fit.false-raw) in
     omega (arith, n.0)
 
 pub returns-then-flag : goal.returns-then-flag
 returns-then-flag c =
-    let f = c in
-    let d = f in
-    let t = d in
-    let l = t in
-    let a = l.args in
-    let all = shown a.bank.now a.out.now (record { first = a.first.now; second = a.second.now }) a.motor l.if-bank-ne-SLOTS.false l.if-out-ne-COMPARE_DMA_SLOTS.false
-    (sym t.buffers_fit.ensures ∙ not-false t.buffers_fit.result d.if-not-buffers_fit.false-raw) d.if-motor-ge-LANES.false
-    (sym f.flag.ensures ∙ f.if-flag.true) c.copy.ensures in record { value = all.0; out_after = all.1 }
+    let a = c.args in
+    let all = shown a.bank.now a.out.now (record { first = a.first.now; second = a.second.now }) a.motor c.if-bank-ne-SLOTS.false c.if-out-ne-COMPARE_DMA_SLOTS.false
+    (sym c.buffers_fit.ensures ∙ not-false c.buffers_fit.result c.if-not-buffers_fit.false-raw) c.if-motor-ge-LANES.false
+    (sym c.flag.ensures ∙ c.if-flag.true) c.copy.ensures in record { value = all.0; out_after = all.1 }
 
 pub returns-else-flag : goal.returns-else-flag
 returns-else-flag c =
-    let f = c in
-    let d = f in
-    let t = d in
-    let l = t in
-    let a = l.args in
-    let all = shown a.bank.now a.out.now (record { first = a.first.now; second = a.second.now }) a.motor l.if-bank-ne-SLOTS.false l.if-out-ne-COMPARE_DMA_SLOTS.false
-    (sym t.buffers_fit.ensures ∙ not-false t.buffers_fit.result d.if-not-buffers_fit.false-raw) d.if-motor-ge-LANES.false
-    (sym f.flag.ensures ∙ f.if-flag.false) c.copy-else-flag.ensures in record { value = all.0; out_after = all.1 }
+    let a = c.args in
+    let all = shown a.bank.now a.out.now (record { first = a.first.now; second = a.second.now }) a.motor c.if-bank-ne-SLOTS.false c.if-out-ne-COMPARE_DMA_SLOTS.false
+    (sym c.buffers_fit.ensures ∙ not-false c.buffers_fit.result c.if-not-buffers_fit.false-raw) c.if-motor-ge-LANES.false
+    (sym c.flag.ensures ∙ c.if-flag.false) c.copy-else-flag.ensures in record { value = all.0; out_after = all.1 }

@@ -17,8 +17,5 @@ returns-then-out-ne-STATS_SLOTS c =
 
 pub returns : goal.returns
 returns c =
-    let p = c in
-    let t = p in
-    let k = t in
-    let a = k.args in
-    let all = stats-told a.bank.now a.out.now t.if-bank-ne-SLOTS.false (λ i. omega (arith, k.type_inv.bank i)) t.if-out-ne-STATS_SLOTS.false p.copy.ensures in record { value = all.0; out_after = all.1 }
+    let a = c.args in
+    let all = stats-told a.bank.now a.out.now c.if-bank-ne-SLOTS.false (λ i. omega (arith, c.type_inv.bank i)) c.if-out-ne-STATS_SLOTS.false c.copy.ensures in record { value = all.0; out_after = all.1 }

@@ -5,5 +5,4 @@ use Rattle.bank_slots.proofs.replies.decode_replies.Goals as goal
 
 pub returns : goal.returns
 returns c =
-    let a = c in
-    replies-decoded a.args.lanes.now a.args.captures.now a.requires.0 c.decode_lane.ensures c.decode_lane-2.ensures c.decode_lane-3.ensures c.decode_lane-4.ensures
+    replies-decoded c.args.lanes.now c.args.captures.now c.requires.0 c.decode_lane.ensures c.decode_lane-2.ensures c.decode_lane-3.ensures c.decode_lane-4.ensures

@@ -12,6 +12,5 @@ returns-then-not-flag c =
 
 pub returns : goal.returns
 returns c =
-    let a = c in
     let waits = sym c.flag.ensures ∙ not-false _ c.if-not-flag.false-raw in
-    windows-read a.args.lanes.now a.args.captures.now a.args.state.now (c.state-1.given ∙ a.requires.0) waits c.decode_replies.ensures
+    windows-read c.args.lanes.now c.args.captures.now c.args.state.now (c.state-1.given ∙ c.requires.0) waits c.decode_replies.ensures

@@ -8,14 +8,12 @@ use Rattle.bank_slots.proofs.send.step_run.Goals as goal
 
 pub returns-in-Value : goal.returns-in-Value
 returns-in-Value c =
-    let a = c in
     let n = c.next_value-next in
-    let s = run-next a.args.state.now a.requires.1 (next_of n.result) (n.ensures ∙ ap (next_value 10) c.run_from.ensures) (ap command_of c.in-Value.is) c.put_run.ensures in
+    let s = run-next c.args.state.now c.requires.1 (next_of n.result) (n.ensures ∙ ap (next_value 10) c.run_from.ensures) (ap command_of c.in-Value.is) c.put_run.ensures in
     record { on_lane = omega arith; result_value = s.0; moves = s.1 }
 
 pub returns-in-None : goal.returns-in-None
 returns-in-None c =
-    let a = c in
     let n = c.next_value-next in
-    let s = run-next a.args.state.now a.requires.1 (next_of n.result) (n.ensures ∙ ap (next_value 10) c.run_from.ensures) (ap command_of c.in-None.is) c.clear_run.ensures in
+    let s = run-next c.args.state.now c.requires.1 (next_of n.result) (n.ensures ∙ ap (next_value 10) c.run_from.ensures) (ap command_of c.in-None.is) c.clear_run.ensures in
     record { on_lane = tt; result_value = s.0; moves = s.1 }

@@ -5,5 +5,4 @@ use Rattle.bank_slots.proofs.send.turn_marks.Goals as goal
 
 pub returns : goal.returns
 returns c =
-    let a = c in
-    marks-turned a.args.state.now _ _ _ _ a.requires a.args.turned c.turn_mark.ensures c.turn_mark-2.ensures c.turn_mark-3.ensures c.turn_mark-4.ensures
+    marks-turned c.args.state.now _ _ _ _ c.requires c.args.turned c.turn_mark.ensures c.turn_mark-2.ensures c.turn_mark-3.ensures c.turn_mark-4.ensures

@@ -7,5 +7,4 @@ use Rattle.bank_slots.proofs.service.count_busy_skip.Goals as goal
 
 pub returns : goal.returns
 returns c =
-    let a = c in
-    moves-at (sym c.bump.ensures) (busy-skip-counted a.args.state.now a.requires)
+    moves-at (sym c.bump.ensures) (busy-skip-counted c.args.state.now c.requires)

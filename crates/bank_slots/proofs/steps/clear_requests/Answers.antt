@@ -5,7 +5,4 @@ use Rattle.bank_slots.proofs.steps.clear_requests.Goals as goal
 
 pub returns : goal.returns
 returns c =
-    let run = c in
-    let sent = run in
-    let request = sent in
-    requests-cleared request.clear_request.ensures sent.clear_sent.ensures run.clear_run.ensures
+    requests-cleared c.clear_request.ensures c.clear_sent.ensures c.clear_run.ensures

@@ -19,5 +19,4 @@ bounds-state-4 c = simp length-set (omega arith)
 
 pub returns : goal.returns
 returns c =
-    let a = c in
-    run-put a.args.state.now a.requires.0 a.args.motor (run_of a.args.run) a.requires.1 (search rules) (search rules) (search rules)
+    run-put c.args.state.now c.requires.0 c.args.motor (run_of c.args.run) c.requires.1 (search rules) (search rules) (search rules)

@@ -9,15 +9,13 @@ use Rattle.capture_file.proofs.file.fill_samples.Goals as goal
 
 pub loop-i-init : goal.loop-i-init
 loop-i-init c =
-    let start = c in
-    let a = start.args in
-    filling-start a.file.now a.samples.now a.from a.count start.requires.1
+    let a = c.args in
+    filling-start a.file.now a.samples.now a.from a.count c.requires.1
 
 pub bounds-samples-i : goal.bounds-samples-i
 bounds-samples-i c =
     let v = c.loop-i in
-    let start = c in
-    omega (arith, v.invariant.same, start.requires.0)
+    omega (arith, v.invariant.same, c.requires.0)
 
 pub shape_of-samples-in-NotANumber : goal.shape_of-samples-in-NotANumber
 shape_of-samples-in-NotANumber c =
@@ -35,10 +33,9 @@ pub loop-i-preserved : goal.loop-i-preserved
 loop-i-preserved c =
     let read = c.read_number in
     let x = c.in-Number in
-    let start = c in
     let v = c.loop-i in
-    let e = sym read.ensures ∙ ap (number_answer start.args.file.now) x.is in
-    filling-more v.invariant start.requires.0 c.loop-i-test.true x.value x.next e
+    let e = sym read.ensures ∙ ap (number_answer c.args.file.now) x.is in
+    filling-more v.invariant c.requires.0 c.loop-i-test.true x.value x.next e
 
 pub shape_of-samples : goal.shape_of-samples
 shape_of-samples c =

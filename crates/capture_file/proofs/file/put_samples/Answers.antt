@@ -27,9 +27,8 @@ put_number-at-requires c =
 pub loop-i-preserved : goal.loop-i-preserved
 loop-i-preserved c =
     let did = c.put_number-at in
-    let turn = c in
-    let v = turn.loop-i in
-    let xs = turn.args.samples.now in
+    let v = c.loop-i in
+    let xs = c.args.samples.now in
     let more = ahead_more (groups (get_or xs v.i 0)) (all_groups (drop (v.i + 1) xs)) (next xs v.i c.loop-i-test.true v.invariant.0) in
     (more did.ensures.value did.ensures.file_after did.auto.file, did.auto.file ∙ v.invariant.1)
 

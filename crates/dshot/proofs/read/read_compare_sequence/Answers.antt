@@ -39,22 +39,20 @@ read_word-requires c = length-take-le 15 c.args.dma_output.now (omega arith)
 
 pub returns-in-Word : goal.returns-in-Word
 returns-in-Word c =
-    let tested = c in
-    let a = tested.args in
+    let a = c.args in
     let t = timing_of a.timing in
     let s : Sequence = record { first = a.first; slots = a.dma_output.now } in
     let e : given c.in-Word.word ≡ word_from t 0 (a.first ∷ take 15 a.dma_output.now) =
     sym (ap word_answer c.in-Word.is) ∙ c.read_word.ensures in
     c.read_packet.ensures ∙ ap (λ (x : Answer ℕ). and_then x read_packet) e
-    ∙ sym (sequence-tested t s tested.if-dma_output-ne-COMPARE_DMA_SLOTS.false tested.if-timing.false tested.if-dma_output-last-ne0.false)
+    ∙ sym (sequence-tested t s c.if-dma_output-ne-COMPARE_DMA_SLOTS.false c.if-timing.false c.if-dma_output-last-ne0.false)
 
 pub returns-in-WrongDuty : goal.returns-in-WrongDuty
 returns-in-WrongDuty c =
-    let tested = c in
-    let a = tested.args in
+    let a = c.args in
     let t = timing_of a.timing in
     let s : Sequence = record { first = a.first; slots = a.dma_output.now } in
     let e : refused wrong_duty ≡ word_from t 0 (a.first ∷ take 15 a.dma_output.now) =
     sym (ap word_answer c.in-WrongDuty.is) ∙ c.read_word.ensures in
     ap (λ (x : Answer ℕ). and_then x read_packet) e
-    ∙ sym (sequence-tested t s tested.if-dma_output-ne-COMPARE_DMA_SLOTS.false tested.if-timing.false tested.if-dma_output-last-ne0.false)
+    ∙ sym (sequence-tested t s c.if-dma_output-ne-COMPARE_DMA_SLOTS.false c.if-timing.false c.if-dma_output-last-ne0.false)

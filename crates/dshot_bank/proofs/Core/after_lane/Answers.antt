@@ -16,49 +16,39 @@ returns-then-self-ne-ALL_MOTORS_COMPLETE c = λ motor begins.
 pub returns-then-turned : goal.returns-then-turned
 unfolding after_lane
 returns-then-turned c = λ motor begins.
-    let d = c in
-    let e = d in
-    let opens = sym e.opens_window.ensures ∙ e.if-opens_window.true in
-    settled (off _ _ (ap not (eq-eqb _ 15 e.if-self-ne-ALL_MOTORS_COMPLETE.false)) (on _ _ opens (on _ _ d.if-turned.true refl)))
-    (by-handled c.handled-then-turned.ensures (d.then-orders.ensures.2 _ begin_receive refl begins) c.window_opened.ensures
+    let opens = sym c.opens_window.ensures ∙ c.if-opens_window.true in
+    settled (off _ _ (ap not (eq-eqb _ 15 c.if-self-ne-ALL_MOTORS_COMPLETE.false)) (on _ _ opens (on _ _ c.if-turned.true refl)))
+    (by-handled c.handled-then-turned.ensures (c.then-orders.ensures.2 _ begin_receive refl begins) c.window_opened.ensures
     (quiet_then motor begin_receive _ (record { small = omega arith; order = refl }) refl quiet_none))
 
 pub returns-then-opens_window : goal.returns-then-opens_window
 unfolding after_lane
 returns-then-opens_window c = λ motor begins.
-    let d = c in
-    let e = d in
-    let opens = sym e.opens_window.ensures ∙ e.if-opens_window.true in
-    settled (off _ _ (ap not (eq-eqb _ 15 e.if-self-ne-ALL_MOTORS_COMPLETE.false)) (on _ _ opens (off _ _ d.if-turned.false refl)))
-    (by-latched _ c.latched.ensures (d.then-orders.ensures.2 _ begin_receive refl begins)
+    let opens = sym c.opens_window.ensures ∙ c.if-opens_window.true in
+    settled (off _ _ (ap not (eq-eqb _ 15 c.if-self-ne-ALL_MOTORS_COMPLETE.false)) (on _ _ opens (off _ _ c.if-turned.false refl)))
+    (by-latched _ c.latched.ensures (c.then-orders.ensures.2 _ begin_receive refl begins)
     (quiet_then motor begin_receive _ (record { small = omega arith; order = refl }) refl quiet-latched))
 
 pub returns-then-turned_back : goal.returns-then-turned_back
 unfolding after_lane
 returns-then-turned_back c = λ motor begins.
-    let d = c in
-    let e = d in
-    let opens = sym e.opens_window.ensures ∙ e.if-opens_window.false in
-    settled (off _ _ (ap not (eq-eqb _ 15 e.if-self-ne-ALL_MOTORS_COMPLETE.false)) (off _ _ opens (on _ _ e.if-self.true (on _ _ d.if-turned_back.true refl))))
-    (by-handled c.handled-then-turned_back.ensures (d.then-orders-then-self.ensures.2 _ end_receive refl begins) c.window_closed.ensures
+    let opens = sym c.opens_window.ensures ∙ c.if-opens_window.false in
+    settled (off _ _ (ap not (eq-eqb _ 15 c.if-self-ne-ALL_MOTORS_COMPLETE.false)) (off _ _ opens (on _ _ c.if-self.true (on _ _ c.if-turned_back.true refl))))
+    (by-handled c.handled-then-turned_back.ensures (c.then-orders-then-self.ensures.2 _ end_receive refl begins) c.window_closed.ensures
     (quiet_then motor end_receive _ (record { small = omega arith; order = refl }) refl quiet_none))
 
 pub returns-then-self : goal.returns-then-self
 unfolding after_lane
 returns-then-self c = λ motor begins.
-    let d = c in
-    let e = d in
-    let opens = sym e.opens_window.ensures ∙ e.if-opens_window.false in
-    settled (off _ _ (ap not (eq-eqb _ 15 e.if-self-ne-ALL_MOTORS_COMPLETE.false)) (off _ _ opens (on _ _ e.if-self.true (off _ _ d.if-turned_back.false refl))))
-    (by-latched _ c.latched-then-self.ensures (d.then-orders-then-self.ensures.2 _ end_receive refl begins)
+    let opens = sym c.opens_window.ensures ∙ c.if-opens_window.false in
+    settled (off _ _ (ap not (eq-eqb _ 15 c.if-self-ne-ALL_MOTORS_COMPLETE.false)) (off _ _ opens (on _ _ c.if-self.true (off _ _ c.if-turned_back.false refl))))
+    (by-latched _ c.latched-then-self.ensures (c.then-orders-then-self.ensures.2 _ end_receive refl begins)
     (quiet_then motor end_receive _ (record { small = omega arith; order = refl }) refl quiet-latched))
 
 pub returns : goal.returns
 unfolding after_lane
 returns c = λ motor begins.
-    let d = c in
-    let e = d in
-    let opens = sym e.opens_window.ensures ∙ e.if-opens_window.false in
-    settled (off _ _ (ap not (eq-eqb _ 15 e.if-self-ne-ALL_MOTORS_COMPLETE.false)) (off _ _ opens (off _ _ e.if-self.false refl)))
-    (by-handled c.handled-2.ensures (d.then-orders-2.ensures.2 _ stop_frame refl begins) c.frame_done.ensures
+    let opens = sym c.opens_window.ensures ∙ c.if-opens_window.false in
+    settled (off _ _ (ap not (eq-eqb _ 15 c.if-self-ne-ALL_MOTORS_COMPLETE.false)) (off _ _ opens (off _ _ c.if-self.false refl)))
+    (by-handled c.handled-2.ensures (c.then-orders-2.ensures.2 _ stop_frame refl begins) c.frame_done.ensures
     (quiet_then motor stop_frame _ (record { small = omega arith; order = refl }) refl quiet_none))

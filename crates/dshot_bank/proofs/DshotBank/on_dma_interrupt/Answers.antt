@@ -13,12 +13,10 @@ use Rattle.dshot_bank.proofs.DshotBank.on_dma_interrupt.Goals as goal
 pub returns-in-Some : goal.returns-in-Some
 unfolding port_refusal
 returns-in-Some c =
-    let d = c in
-    let l = d in
-    let a = l.args in
-    let m = l.in-Some.lane in
-    let found = sym (ap choice_of l.in-Some.is) ∙ l.from_index.ensures in
-    let h = d.on_dma_interrupt-handled.ensures in
+    let a = c.args in
+    let m = c.in-Some.lane in
+    let found = sym (ap choice_of c.in-Some.is) ∙ c.from_index.ensures in
+    let h = c.on_dma_interrupt-handled.ensures in
     record {
       b_value = λ b. stepped-so a.self b (motor_of m) a.transfer_complete a.dma_error a.turned a.turned_back h
           ∙ found-step _ (λ (i : ℕ). on_dma_interrupt_call i a.transfer_complete a.dma_error a.turned a.turned_back) (λ i. refl) _ m found;
@@ -28,7 +26,6 @@ returns-in-Some c =
 pub returns-in-None : goal.returns-in-None
 unfolding port_refusal
 returns-in-None c =
-    let f = c in
-    let a = f.args in
-    let missing = sym (ap choice_of c.in-None.is) ∙ f.from_index.ensures in
+    let a = c.args in
+    let missing = sym (ap choice_of c.in-None.is) ∙ c.from_index.ensures in
     record { b_value = λ b. missing-step _ (λ (i : ℕ). on_dma_interrupt_call i a.transfer_complete a.dma_error a.turned a.turned_back) (λ i. refl) _ missing; just = just c.none.result (replicate 4 0) [] (refused no_such_motor) c.none.ensures.2 refl refl }

@@ -25,8 +25,7 @@ slice_bounds-result-end-then-marks-motor c =
 
 pub returns-then-marks-motor : goal.returns-then-marks-motor
 returns-then-marks-motor c =
-    let d = c in
-    shown-so 4 _ _ (on _ _ c.if-marks-motor.true refl) (sym d.buffers_fit.ensures ∙ not-false _ d.if-not-buffers_fit.false-raw) (lt-ltb _ _ d.if-motor-ge-LANES.false)
+    shown-so 4 _ _ (on _ _ c.if-marks-motor.true refl) (sym c.buffers_fit.ensures ∙ not-false _ c.if-not-buffers_fit.false-raw) (lt-ltb _ _ c.if-motor-ge-LANES.false)
 
 pub slice_bounds-result-end-2 : goal.slice_bounds-result-end-2
 slice_bounds-result-end-2 c =
@@ -37,5 +36,4 @@ slice_bounds-result-end-2 c =
 
 pub returns : goal.returns
 returns c =
-    let d = c in
-    shown-so 4 _ _ (off _ _ c.if-marks-motor.false refl) (sym d.buffers_fit.ensures ∙ not-false _ d.if-not-buffers_fit.false-raw) (lt-ltb _ _ d.if-motor-ge-LANES.false)
+    shown-so 4 _ _ (off _ _ c.if-marks-motor.false refl) (sym c.buffers_fit.ensures ∙ not-false _ c.if-not-buffers_fit.false-raw) (lt-ltb _ _ c.if-motor-ge-LANES.false)

@@ -7,10 +7,8 @@ use Rattle.dshot_bank_bench.proofs.Run.cycle.Goals as goal
 
 pub returns : goal.returns
 returns c =
-    let s = c in
-    let t = s in
-    let a = t.args in
+    let a = c.args in
     let call = service_call a.now_ms (replicate 4 true) (replicate 4 a.present) (replicate 4 a.mask) a.captures.now in
     c.interrupts.ensures _
     ∙ ap (interrupts a.count)
-    (s.serve.ensures ∙ ap (λ (r : Run). after r call) (t.throttle.ensures (record { first = a.first.now; second = a.second.now })))
+    (c.serve.ensures ∙ ap (λ (r : Run). after r call) (c.throttle.ensures (record { first = a.first.now; second = a.second.now })))

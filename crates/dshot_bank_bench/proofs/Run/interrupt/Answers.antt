@@ -8,9 +8,8 @@ use Rattle.dshot_bank_bench.proofs.Run.interrupt.Goals as goal
 
 pub returns : goal.returns
 returns c =
-    let d = c in
-    let t = d.on_dma_interrupt-done in
-    let a = d.args in
+    let t = c.on_dma_interrupt-done in
+    let a = c.args in
     let z : List ℕ = replicate 4 0 in
     let new = c.add_duties-sum.ensures ∙ ap (λ (n : ℕ). add_all n z) c.add_orders.ensures ∙ told-so a.self.sum t.result.orders z _ t.ensures.just in
     λ b. after-so (state_of a.self.bank b) a.self.sum _ _ (t.ensures.b_value b) new

@@ -32,12 +32,10 @@ returns-in-Written c =
 
 pub returns-in-NoMask : goal.returns-in-NoMask
 returns-in-NoMask c =
-    let no-mask = c in
-    let a = no-mask.args in
-    kept 3 a.out.now a.value a.lead a.pin_mask NoMask (sym (ap simulated_number c.in-NoMask.is) ∙ no-mask.answer_for.ensures) (λ e. omega arith)
+    let a = c.args in
+    kept 3 a.out.now a.value a.lead a.pin_mask NoMask (sym (ap simulated_number c.in-NoMask.is) ∙ c.answer_for.ensures) (λ e. omega arith)
 
 pub returns-in-WrongLength : goal.returns-in-WrongLength
 returns-in-WrongLength c =
-    let wrong-length = c in
-    let a = wrong-length.args in
-    kept 3 a.out.now a.value a.lead a.pin_mask WrongLength (sym (ap simulated_number c.in-WrongLength.is) ∙ wrong-length.answer_for.ensures) (λ e. omega arith)
+    let a = c.args in
+    kept 3 a.out.now a.value a.lead a.pin_mask WrongLength (sym (ap simulated_number c.in-WrongLength.is) ∙ c.answer_for.ensures) (λ e. omega arith)

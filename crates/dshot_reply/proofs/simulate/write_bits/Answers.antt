@@ -25,8 +25,7 @@ loop-left-preserved c =
     let x = c.level_sample in
     let b = c.next_level-level in
     let v = c.loop-left in
-    let start = c in
-    let a = start.args in
+    let a = c.args in
     let i = v.left - 1 in
     let k = 3 * (21 - v.left) in
     let e : v.left ≡ suc i = omega arith in
@@ -39,7 +38,7 @@ loop-left-preserved c =
       omega arith,
       rw (b.ensures, ← more) (left-next 3 a.word a.pin_mask v.level i k l),
       rw (f.ensures, three, room, x.ensures, b.ensures, v.invariant.1, v.invariant.4, ← more)
-          (after_next 3 a.word a.lead a.pin_mask (length a.out.now) start.requires.0 v.level i k (omega arith) l),
+          (after_next 3 a.word a.lead a.pin_mask (length a.out.now) c.requires.0 v.level i k (omega arith) l),
     )
 
 pub shape_of-out : goal.shape_of-out

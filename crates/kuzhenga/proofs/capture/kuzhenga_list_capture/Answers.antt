@@ -27,16 +27,14 @@ overflow_cast-line_length c =
 
 pub put_bytes-requires : goal.put_bytes-requires
 put_bytes-requires c =
-    let line = c in
-    let room = file-line-room _ line.file_line-made.result line.file_line-made.ensures in
-    line.if-line-ne-LINE_ROOM.false ∙ sym room.1
+    let room = file-line-room _ c.file_line-made.result c.file_line-made.ensures in
+    c.if-line-ne-LINE_ROOM.false ∙ sym room.1
 
 pub returns : goal.returns
 returns c =
-    let line = c in
-    let a = line.args in
-    let made = line.file_line-made in
-    let h = line.if-line_length-ne1.false in
-    let all = given_both line_bytes count_slot _ _ (asked-so a.line.now 32 _ line.if-line-ne-LINE_ROOM.false ∙ asked-so a.line_length.now 1 _ h)
+    let a = c.args in
+    let made = c.file_line-made in
+    let h = c.if-line_length-ne1.false in
+    let all = given_both line_bytes count_slot _ _ (asked-so a.line.now 32 _ c.if-line-ne-LINE_ROOM.false ∙ asked-so a.line_length.now 1 _ h)
     (c.put_bytes.ensures ∙ ap (λ (l : Line). l.bytes) made.ensures)
     (all_set a.line_length.now (made.result.length ∷ []) h ∙ ap (λ (l : Line). one l.length) made.ensures) in record { value = all.0; line_after = all.1.0; line_length_after = all.1.1 }

@@ -21,8 +21,7 @@ returns-then-about-ne3 c =
 
 pub overflow_cast-about : goal.overflow_cast-about
 overflow_cast-about c =
-    let read = c in
-    let e = sym (ap read_answer c.in-Capture.is) ∙ read.read_capture.ensures.result_value in
+    let e = sym (ap read_answer c.in-Capture.is) ∙ c.read_capture.ensures.result_value in
     omega (arith, count_fits _ _ _ e)
 
 pub bounds-about-1 : goal.bounds-about-1
@@ -33,32 +32,28 @@ bounds-about-2 c = simp length-set (omega arith)
 
 pub returns-in-Capture : goal.returns-in-Capture
 returns-in-Capture c =
-    let found = c in
-    let read = found in
-    let a = read.args in
-    let h = read.if-about-ne3.false in
-    let e = sym (ap read_answer found.in-Capture.is) ∙ read.read_capture.ensures.result_value in
+    let a = c.args in
+    let h = c.if-about-ne3.false in
+    let e = sym (ap read_answer c.in-Capture.is) ∙ c.read_capture.ensures.result_value in
     let is = capture-of a.file.now a.samples.now _ e in
-    let count = found.in-Capture.count in
-    let mask = found.in-Capture.mask in
+    let count = c.in-Capture.count in
+    let mask = c.in-Capture.mask in
     let all = given-on (slots_of a.samples.now) capture_slots a.samples.now a.about.now 3 (read_into a.file.now a.samples.now)
-    h read.read_capture.ensures.samples_after is.1
+    h c.read_capture.ensures.samples_after is.1
     (all_set a.about.now (count ∷ mask ∷ c.flag_of.result ∷ []) h
     ∙ ap (λ (n : ℕ). count ∷ mask ∷ n ∷ []) c.flag_of.ensures
     ∙ told-slots is.0 _ is.2) in record { value = all.0; samples_after = all.1.0; about_after = all.1.1 }
 
 pub returns-in-NotACapture : goal.returns-in-NotACapture
 returns-in-NotACapture c =
-    let read = c in
-    let a = read.args in
-    let e = sym (ap read_answer c.in-NotACapture.is) ∙ read.read_capture.ensures.result_value in
+    let a = c.args in
+    let e = sym (ap read_answer c.in-NotACapture.is) ∙ c.read_capture.ensures.result_value in
     let all = refused-on (slots_of a.samples.now) capture_slots a.samples.now a.about.now 3 (read_into a.file.now a.samples.now)
-    read.if-about-ne3.false read.read_capture.ensures.samples_after (then-refused _ _ (sym e)) in record { value = all.0; samples_after = all.1.0; about_after = all.1.1 }
+    c.if-about-ne3.false c.read_capture.ensures.samples_after (then-refused _ _ (sym e)) in record { value = all.0; samples_after = all.1.0; about_after = all.1.1 }
 
 pub returns-in-WrongLength : goal.returns-in-WrongLength
 returns-in-WrongLength c =
-    let read = c in
-    let a = read.args in
-    let e = sym (ap read_answer c.in-WrongLength.is) ∙ read.read_capture.ensures.result_value in
+    let a = c.args in
+    let e = sym (ap read_answer c.in-WrongLength.is) ∙ c.read_capture.ensures.result_value in
     let all = refused-on (slots_of a.samples.now) capture_slots a.samples.now a.about.now 3 (read_into a.file.now a.samples.now)
-    read.if-about-ne3.false read.read_capture.ensures.samples_after (then-refused _ _ (sym e)) in record { value = all.0; samples_after = all.1.0; about_after = all.1.1 }
+    c.if-about-ne3.false c.read_capture.ensures.samples_after (then-refused _ _ (sym e)) in record { value = all.0; samples_after = all.1.0; about_after = all.1.1 }

@@ -26,17 +26,15 @@ overflow_cast-file_length c =
 
 pub returns-in-Length : goal.returns-in-Length
 returns-in-Length c =
-    let write = c in
-    let a = write.args in
-    let h = write.if-file_length-ne1.false in
-    let is = then-given _ byte_count (sym write.write_capture.ensures.result_value ∙ ap written_answer c.in-Length.is) in
-    let all = given-on (front a.file.now) count_slot a.file.now a.file_length.now 1 _ h write.write_capture.ensures.file_after is.1
+    let a = c.args in
+    let h = c.if-file_length-ne1.false in
+    let is = then-given _ byte_count (sym c.write_capture.ensures.result_value ∙ ap written_answer c.in-Length.is) in
+    let all = given-on (front a.file.now) count_slot a.file.now a.file_length.now 1 _ h c.write_capture.ensures.file_after is.1
     (all_set a.file_length.now (c.in-Length.bytes ∷ []) h ∙ ap one (sym (same-given is.2))) in record { value = all.0; file_after = all.1.0; file_length_after = all.1.1 }
 
 pub returns-in-WrongLength : goal.returns-in-WrongLength
 returns-in-WrongLength c =
-    let write = c in
-    let a = write.args in
-    let e = sym write.write_capture.ensures.result_value ∙ ap written_answer c.in-WrongLength.is in
-    let all = refused-on (front a.file.now) count_slot a.file.now a.file_length.now 1 _ write.if-file_length-ne1.false write.write_capture.ensures.file_after
+    let a = c.args in
+    let e = sym c.write_capture.ensures.result_value ∙ ap written_answer c.in-WrongLength.is in
+    let all = refused-on (front a.file.now) count_slot a.file.now a.file_length.now 1 _ c.if-file_length-ne1.false c.write_capture.ensures.file_after
     (then-refused _ _ e) in record { value = all.0; file_after = all.1.0; file_length_after = all.1.1 }

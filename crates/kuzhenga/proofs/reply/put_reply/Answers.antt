@@ -8,8 +8,7 @@ use Rattle.kuzhenga.proofs.reply.put_reply.Goals as goal
 
 pub returns-in-Reply : goal.returns-in-Reply
 returns-in-Reply c =
-    let s = c in
-    record { value = cc; out_after = all_set s.args.out.now (c.kind_number.result ∷ halves c.reading_number-n.result) s.requires ∙ cc }
+    record { value = cc; out_after = all_set c.args.out.now (c.kind_number.result ∷ halves c.reading_number-n.result) c.requires ∙ cc }
 
 pub returns-in-Refused : goal.returns-in-Refused
 returns-in-Refused c =
