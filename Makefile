@@ -41,16 +41,20 @@ check:
 # ---- the archive
 
 # `rt lib` looks at each crate below even if nothing changed. So it is called only if a file or folder of these crates is
-# newer than the archive.
+# newer than the archive. The benchmark's archives are built by the same rule.
 ifeq ($(ARCHIVE),)
-crates := kuzhenga_c kuzhenga $(shell sed -n 's/^kuzhenga: *//p' crates.txt)
-proved := crates.txt $(shell find $(wildcard $(foreach part,src specs proofs,$(crates:%=crates/%/$(part)))))
+archives := kuzhenga dshot_reply_bench dshot_bench dshot_bank_bench
+crates = $(1)_c $(1) $(shell sed -n 's/^$(1): *//p' crates.txt)
+proved = $(shell find $(wildcard $(foreach part,src specs proofs,$(addsuffix /$(part),$(addprefix crates/,$(crates))))))
 
-$(archive): $(proved)
+define archive_rule
+target/staticlib/lib$(1).a: crates.txt $(proved)
 	@command -v rt >/dev/null || { echo 'rt, the toolchain, is not found; ARCHIVE=FOLDER does without it' >&2; exit 1; }
-	cd crates/kuzhenga_c && rt lib --cpu x86-64
-	@mkdir -p $(@D)
-	cp crates/kuzhenga_c/out/libkuzhenga_c.a $@
+	cd crates/$(1)_c && rt lib --cpu x86-64
+	@mkdir -p $$(@D)
+	cp crates/$(1)_c/out/lib$(1)_c.a $$@
+endef
+$(foreach crate,$(archives),$(eval $(call archive_rule,$(crate))))
 
 $(made_with): $(archive)
 endif
