@@ -1,26 +1,27 @@
 -- What each case of the code's enums means in document 01's numbers and values.
 -- Assumes nothing.
-use Rattle.std.specs.Prelude.{ℕ}
+use Rattle.std.specs.Prelude.{ℕ, Result, Ok, Err}
 use Rattle.dshot_reply_spec.specs.Answer.{Answer, given, refused}
 use Rattle.dshot_reply_spec.specs.Refusals.{no_reply, overlong, invalid_symbol, wrong_checksum, zero_period, no_mask, wrong_length, period_out_of_range}
 use Rattle.dshot_reply_spec.specs.Value.{Reading, erpm, temp, volt, amp, debug, state, edt}
 use Rattle.dshot_reply_spec.specs.ValuePeriod as Told
 use Rattle.dshot_reply.specs.declared.DshotReplyError.{DshotReplyError}
 use Rattle.dshot_reply.specs.declared.DshotReplyError.TheVariants.{NoReply, Overlong, InvalidSymbol, Checksum, ZeroPeriod}
-use Rattle.dshot_reply.specs.declared.Transitions.{Transitions}
-use Rattle.dshot_reply.specs.declared.Transitions.TheVariants as Bits
-use Rattle.dshot_reply.specs.declared.Decoded.{Decoded}
-use Rattle.dshot_reply.specs.declared.Decoded.TheVariants as Code
 use Rattle.dshot_reply.specs.declared.DshotReply.{DshotReply}
 use Rattle.dshot_reply.specs.declared.DshotReply.TheVariants.{Erpm, Temperature, Voltage, Current, Debug, StateEvent, ExtendedTelemetryEnabled}
-use Rattle.dshot_reply.specs.declared.ReplyRead.{ReplyRead}
-use Rattle.dshot_reply.specs.declared.ReplyRead.TheVariants as Read
 use Rattle.dshot_reply.specs.declared.period.ValuePeriod.{ValuePeriod}
-use Rattle.dshot_reply.specs.declared.period.ValuePeriod.TheVariants as Stands
-use Rattle.dshot_reply.specs.declared.simulate.PeriodValue.{PeriodValue}
-use Rattle.dshot_reply.specs.declared.simulate.PeriodValue.TheVariants as Period
-use Rattle.dshot_reply.specs.declared.simulate.Simulated.{Simulated}
-use Rattle.dshot_reply.specs.declared.simulate.Simulated.TheVariants.{Written, NoMask, WrongLength}
+use Rattle.dshot_reply.specs.declared.simulate.SimulateError.{SimulateError}
+use Rattle.dshot_reply.specs.declared.simulate.SimulateError.TheVariants.{PeriodOutOfRange, NoMask, WrongLength}
+
+-- what a `Result` answers, by the meaning of its value and the number of its error
+abbrev pub answer : {T E A : Type 0} → (T → A) → (E → ℕ) → Result T E → Answer A
+answer meaning number (Ok value) = given (meaning value)
+answer meaning number (Err error) = refused (number error)
+
+-- the number of its error, or 0 if the call is done
+abbrev pub status : {E : Type 0} → (E → ℕ) → Result Unit E → ℕ
+status number (Ok done) = 0
+status number (Err error) = number error
 
 -- the number of each refusal
 abbrev pub error_number : DshotReplyError → ℕ
@@ -30,15 +31,9 @@ error_number InvalidSymbol = invalid_symbol
 error_number Checksum = wrong_checksum
 error_number ZeroPeriod = zero_period
 
--- the transition bits of a capture
-abbrev pub transitions_answer : Transitions → Answer ℕ
-transitions_answer (Bits.Word w) = given w
-transitions_answer (Bits.Refused e) = refused (error_number e)
-
--- the value of transition bits
-abbrev pub decoded_answer : Decoded → Answer ℕ
-decoded_answer (Code.Value v) = given v
-decoded_answer (Code.Refused e) = refused (error_number e)
+-- the transition bits of a capture, and the value of transition bits
+abbrev pub number_answer : Result ℕ DshotReplyError → Answer ℕ
+number_answer = answer (λ n. n) error_number
 
 -- the kind and the number of each reply
 abbrev pub reading : DshotReply → Reading
@@ -51,22 +46,27 @@ reading (StateEvent n) = state n
 reading ExtendedTelemetryEnabled = edt
 
 -- the reading of a value or a capture
-abbrev pub reply_answer : ReplyRead → Answer Reading
-reply_answer (Read.Reply r) = given (reading r)
-reply_answer (Read.Refused e) = refused (error_number e)
+abbrev pub reply_answer : Result DshotReply DshotReplyError → Answer Reading
+reply_answer = answer reading error_number
 
 -- the period of a value
-abbrev pub value_period_answer : ValuePeriod → Answer Told.Period
-value_period_answer (Stands.Period p s) = given (record { microseconds = p; step = s })
-value_period_answer Stands.ZeroPeriod = refused zero_period
+abbrev pub period_told : ValuePeriod → Told.Period
+period_told p = record { microseconds = p.period_us; step = p.step_us }
+
+abbrev pub value_period_answer : Result ValuePeriod DshotReplyError → Answer Told.Period
+value_period_answer = answer period_told error_number
+
+-- ---- the simulated ESC
+
+abbrev pub simulate_error_number : SimulateError → ℕ
+simulate_error_number PeriodOutOfRange = period_out_of_range
+simulate_error_number NoMask = no_mask
+simulate_error_number WrongLength = wrong_length
 
 -- the value of a period
-abbrev pub period_answer : PeriodValue → Answer ℕ
-period_answer (Period.Value v) = given v
-period_answer Period.OutOfRange = refused period_out_of_range
+abbrev pub period_answer : Result ℕ SimulateError → Answer ℕ
+period_answer = answer (λ n. n) simulate_error_number
 
 -- the number of a refusal; 0 if the capture was written
-abbrev pub simulated_number : Simulated → ℕ
-simulated_number Written = 0
-simulated_number NoMask = no_mask
-simulated_number WrongLength = wrong_length
+abbrev pub simulated_number : Result Unit SimulateError → ℕ
+simulated_number = status simulate_error_number

@@ -18,15 +18,13 @@
 // The source's requirements: OUTPUT-003, OUTPUT-010, OUTPUT-011, OUTPUT-012, OUTPUT-013. Safety-critical.
 #![tactic(auto)]
 
-ghost use Rattle.std.specs.Prelude.{◌≡◌, ◌+◌, ◌*◌, ◌-◌, ◌^◌, ◌≤◌, ◌<◌, min, true, length, drop};
+ghost use Rattle.std.specs.Prelude.{◌≡◌, ◌+◌, ◌*◌, ◌-◌, ◌^◌, ◌≤◌, ◌<◌, true, length, drop};
 ghost use Rattle.dshot_reply_spec.specs.Gcr.{symbol_of, nibble_of, reply_word, decode_word};
 ghost use Rattle.dshot_reply_spec.specs.Runs.{high, levels, first_low, run_bits, runs_of, assemble, transitions_of};
 ghost use Rattle.dshot_reply_spec.specs.Value.{speed_of, speed_value, reading_of, reply_of};
-ghost use Rattle.dshot_reply_spec.specs.Reading.{word_reply, sampled_reply};
-ghost use Rattle.dshot_reply.specs.Answers.{transitions_answer, decoded_answer, reading, reply_answer, error_number};
+ghost use Rattle.dshot_reply_spec.specs.Reading.{sampled_reply};
+ghost use Rattle.dshot_reply.specs.Answers.{number_answer, reading, reply_answer, error_number};
 ghost use Rattle.dshot_reply.specs.Steps.{Encodes, Decodes, same_for, closed};
-
-use crate::refusals::{INVALID_SYMBOL, NO_REPLY, OVERLONG, WRONG_CHECKSUM, ZERO_PERIOD};
 
 // Not in the source: a reply as two numbers, the period of a value, the numbers of refusals, and the simulated ESC.
 pub mod kind;
@@ -59,8 +57,8 @@ pub const EDT_ENABLE_ACK: u16 = 0x0e00;
 // The value an ESC sends for a stopped motor.
 const ERPM_STOPPED: u16 = 0x0fff;
 
-// Why a reply could not be decoded. Every one is dropped and counted, never treated as a reading. `specs/Answers.antt` gives each its number.
-#[derive(Clone, Copy)]
+// Why a reply could not be decoded. Every one is dropped and counted, never treated as a reading. `refusals.rt` gives each its number.
+#[derive(Clone, Copy, Debug, PartialEq, Eq)]
 pub enum DshotReplyError {
     // No start edge with room for a whole reply after it, or too few edges after one.
     NoReply,
@@ -72,19 +70,6 @@ pub enum DshotReplyError {
     Checksum,
     // An eRPM period of zero, which no ESC sends.
     ZeroPeriod,
-}
-
-// The number of a refusal in document 01.
-pub fn error_number(error: DshotReplyError) -> u32
-    ensures { result ≡ error_number error }
-{
-    match error {
-        DshotReplyError::NoReply => NO_REPLY,
-        DshotReplyError::Overlong => OVERLONG,
-        DshotReplyError::InvalidSymbol => INVALID_SYMBOL,
-        DshotReplyError::Checksum => WRONG_CHECKSUM,
-        DshotReplyError::ZeroPeriod => ZERO_PERIOD,
-    }
 }
 
 // The GCR symbol of each nibble.
@@ -113,13 +98,6 @@ pub fn reply_transitions_for(value: u16) -> u32
     let s1 = nibble_symbol(&table, c);
     let s0 = nibble_symbol(&table, checksum);
     (((32 + s3) * 32 + s2) * 32 + s1) * 32 + s0
-}
-
-// The transition bits of a reply, or why there are none.
-#[derive(Clone, Copy)]
-pub enum Transitions {
-    Word(u32),
-    Refused(DshotReplyError),
 }
 
 fn is_high(sample: u16, pin_mask: u16) -> bool
@@ -195,8 +173,7 @@ fn run_bits(samples: usize) -> u32
     requires { samples ≤ 69 }
     ensures { result ≡ run_bits 3 samples }
 {
-    let run = (samples + 1) / REPLY_SAMPLES_PER_BIT;
-    if run < 1 { 1 } else { run as u32 }
+    ((samples + 1) / REPLY_SAMPLES_PER_BIT).max(1) as u32
 }
 
 // The bits so far, then a 1 and `run` - 1 zeros.
@@ -208,23 +185,23 @@ fn push_run(transitions: u32, run: u32) -> u32
 }
 
 // The answer at the end of reading. If too few bits were seen, there is no reply. Otherwise the missing bits are one last run.
-fn close(bits: u32, transitions: u32) -> Transitions
+fn close(bits: u32, transitions: u32) -> Result<u32, DshotReplyError>
     requires { (bits ≤ 21) × (transitions < 2 ^ bits) }
-    ensures { transitions_answer result ≡ closed bits transitions }
+    ensures { number_answer result ≡ closed bits transitions }
 {
     if bits < MIN_EDGE_BITS {
-        return Transitions::Refused(DshotReplyError::NoReply);
+        return Err(DshotReplyError::NoReply);
     }
     if bits < REPLY_BITS {
-        return Transitions::Word(push_run(transitions, REPLY_BITS - bits));
+        return Ok(push_run(transitions, REPLY_BITS - bits));
     }
-    Transitions::Word(transitions)
+    Ok(transitions)
 }
 
 // The finished runs of samples that begin at the start edge, as transition bits.
-fn read_runs(samples: &[u16], pin_mask: u16) -> Transitions
+fn read_runs(samples: &[u16], pin_mask: u16) -> Result<u32, DshotReplyError>
     requires { length samples.now ≤ 69 }
-    ensures { transitions_answer result ≡ assemble (runs_of 3 (levels pin_mask samples.now)) }
+    ensures { number_answer result ≡ assemble (runs_of 3 (levels pin_mask samples.now)) }
 {
     let mut level = false;
     let mut run_start: usize = 0;
@@ -234,7 +211,7 @@ fn read_runs(samples: &[u16], pin_mask: u16) -> Transitions
     while edge < samples.len() {
         let run = run_bits(edge - run_start);
         if REPLY_BITS - bits < run {
-            return Transitions::Refused(DshotReplyError::Overlong);
+            return Err(DshotReplyError::Overlong);
         }
         transitions = push_run(transitions, run);
         bits += run;
@@ -245,33 +222,18 @@ fn read_runs(samples: &[u16], pin_mask: u16) -> Transitions
     close(bits, transitions)
 }
 
-fn at_most(n: usize, most: usize) -> usize
-    ensures { result ≡ min n most }
-{
-    if n < most { n } else { most }
-}
-
-// How many samples, from the first on, may be the start. At least `MIN_REPLY_SAMPLES` samples must follow from the start on.
-fn possible_starts(samples: usize) -> usize
-    ensures { result ≡ samples - 56 }
-{
-    if samples < MIN_REPLY_SAMPLES {
-        return 0;
-    }
-    samples - (MIN_REPLY_SAMPLES - 1)
-}
-
 // Turns pin samples into a reply's 21 transition bits, most significant first. `pin_mask` selects the motor's pin in each sample, so a sample
 // can be a whole GPIO input register.
-pub fn reply_transitions(samples: &[u16], pin_mask: u16) -> Transitions
-    ensures { transitions_answer result ≡ transitions_of 3 samples.now pin_mask }
+pub fn reply_transitions(samples: &[u16], pin_mask: u16) -> Result<u32, DshotReplyError>
+    ensures { number_answer result ≡ transitions_of 3 samples.now pin_mask }
 {
-    let starts = possible_starts(samples.len());
+    // At least `MIN_REPLY_SAMPLES` samples must follow from the start on.
+    let starts = samples.len().saturating_sub(MIN_REPLY_SAMPLES - 1);
     let start = first_low(&samples[..starts], pin_mask);
     if start == starts {
-        return Transitions::Refused(DshotReplyError::NoReply);
+        return Err(DshotReplyError::NoReply);
     }
-    let end = start + at_most(samples.len() - start, MAX_REPLY_SAMPLES);
+    let end = start + (samples.len() - start).min(MAX_REPLY_SAMPLES);
     read_runs(&samples[start..end], pin_mask)
 }
 
@@ -284,29 +246,16 @@ const GCR_DECODE: [u8; 32] = [
     0x1, INVALID, 0x4, 0xc, INVALID,
 ];
 
-fn wide(x: u8) -> u32
-    ensures { (result ≡ «x») × (result < 256) }
-{
-    x as u32
-}
-
 fn symbol_nibble(table: &[u8; 32], symbol: u32) -> u32
     requires { Decodes table.now × (symbol < 32) }
     ensures { (result ≡ nibble_of symbol) × (result < 256) }
 {
-    wide(table[symbol as usize])
-}
-
-// The checked 12-bit value of a reply's transition bits, or why there is none.
-#[derive(Clone, Copy)]
-pub enum Decoded {
-    Value(u16),
-    Refused(DshotReplyError),
+    u32::from(table[symbol as usize])
 }
 
 // Decodes a reply's transition bits to its 12-bit value, checking every symbol and the checksum. The start edge, bit 20, is ignored.
-pub fn decode_gcr(transitions: u32) -> Decoded
-    ensures { decoded_answer result ≡ decode_word transitions }
+pub fn decode_gcr(transitions: u32) -> Result<u16, DshotReplyError>
+    ensures { number_answer result ≡ decode_word transitions }
 {
     let table = GCR_DECODE;
     let a = symbol_nibble(&table, transitions / 32768 % 32);
@@ -316,21 +265,20 @@ pub fn decode_gcr(transitions: u32) -> Decoded
     // A nibble is at most 15 and `INVALID` is 255, so one test finds a bad symbol among three. With one test for each of the four symbols, a word
     // took 2.4 ns and 50 instructions. Now it takes 2.1 ns and 41 instructions.
     if 45 < a + b + c {
-        return Decoded::Refused(DshotReplyError::InvalidSymbol);
+        return Err(DshotReplyError::InvalidSymbol);
     }
     // The nibbles of value and checksum XOR to all ones. Three nibbles and `INVALID` do not.
     if a ^ b ^ c ^ d == 15 {
-        let value = (a * 256 + b * 16 + c) as u16;
-        return Decoded::Value(value);
+        return Ok((a * 256 + b * 16 + c) as u16);
     }
     if 15 < d {
-        return Decoded::Refused(DshotReplyError::InvalidSymbol);
+        return Err(DshotReplyError::InvalidSymbol);
     }
-    Decoded::Refused(DshotReplyError::Checksum)
+    Err(DshotReplyError::Checksum)
 }
 
 // One decoded reply.
-#[derive(Clone, Copy)]
+#[derive(Clone, Copy, Debug, PartialEq, Eq)]
 pub enum DshotReply {
     // Electrical RPM divided by 100, as in the legacy UART frame; zero for a stopped motor.
     Erpm { erpm_div100: u32 },
@@ -348,32 +296,25 @@ pub enum DshotReply {
     ExtendedTelemetryEnabled,
 }
 
-// What a value or a capture reads as, or why it is refused.
-#[derive(Clone, Copy)]
-pub enum ReplyRead {
-    Reply(DshotReply),
-    Refused(DshotReplyError),
-}
-
 // 60,000,000 us per minute, over 100, rounded.
-fn speed_of(period_us: u32) -> ReplyRead
+fn speed_of(period_us: u32) -> Result<DshotReply, DshotReplyError>
     requires { period_us < 2 ^ 16 }
     ensures { reply_answer result ≡ speed_of period_us }
 {
     if period_us == 0 {
-        return ReplyRead::Refused(DshotReplyError::ZeroPeriod);
+        return Err(DshotReplyError::ZeroPeriod);
     }
     let erpm_div100 = (600_000 + period_us / 2) / period_us;
-    ReplyRead::Reply(DshotReply::Erpm { erpm_div100 })
+    Ok(DshotReply::Erpm { erpm_div100 })
 }
 
 // eee mmmmmmmmm: the period in microseconds is m << e.
-fn speed_value(value: u16) -> ReplyRead
+fn speed_value(value: u16) -> Result<DshotReply, DshotReplyError>
     requires { value < 4096 }
     ensures { reply_answer result ≡ speed_value value }
 {
     if value == ERPM_STOPPED {
-        return ReplyRead::Reply(DshotReply::Erpm { erpm_div100: 0 });
+        return Ok(DshotReply::Erpm { erpm_div100: 0 });
     }
     speed_of(((value % 512) as u32) << (value / 512))
 }
@@ -383,67 +324,50 @@ fn reading_of(kind: u16, data: u8) -> DshotReply
     requires { (0 < kind) × (kind < 8) }
     ensures { reading result ≡ reading_of kind «data» }
 {
-    if kind == 1 {
-        return DshotReply::Temperature { celsius: data };
-    }
-    if kind == 2 {
-        return DshotReply::Voltage {
+    match kind {
+        1 => DshotReply::Temperature { celsius: data },
+        2 => DshotReply::Voltage {
             quarter_volts: data,
-        };
-    }
-    if kind == 3 {
-        return DshotReply::Current { amps: data };
-    }
-    if kind == 7 {
-        return DshotReply::StateEvent { value: data };
-    }
-    DshotReply::Debug {
-        channel: (kind - 3) as u8,
-        value: data,
+        },
+        3 => DshotReply::Current { amps: data },
+        7 => DshotReply::StateEvent { value: data },
+        _ => DshotReply::Debug {
+            channel: (kind - 3) as u8,
+            value: data,
+        },
     }
 }
 
 impl DshotReply {
     // Interprets a checked 12-bit value. With `extended_telemetry` off every value is an eRPM period, except the EDT-enable acknowledgement.
     // With it on, a value whose type nibble is even and nonzero is a typed reading.
-    pub fn from_value(value: u16, extended_telemetry: bool) -> ReplyRead
+    pub fn from_value(value: u16, extended_telemetry: bool) -> Result<Self, DshotReplyError>
         ensures { reply_answer result ≡ reply_of value extended_telemetry }
     {
         let v = value % 4096;
         if !extended_telemetry {
             if v == EDT_ENABLE_ACK {
-                return ReplyRead::Reply(DshotReply::ExtendedTelemetryEnabled);
+                return Ok(DshotReply::ExtendedTelemetryEnabled);
             }
             return speed_value(v);
         }
         let kind = v / 256;
-        if kind % 2 == 1 {
+        if kind % 2 == 1 || kind == 0 {
             return speed_value(v);
         }
-        if kind == 0 {
-            return speed_value(v);
-        }
-        ReplyRead::Reply(reading_of(v / 512, (v % 256) as u8))
-    }
-}
-
-// The reading of transition bits.
-fn read_word(transitions: u32, extended_telemetry: bool) -> ReplyRead
-    ensures { reply_answer result ≡ word_reply transitions extended_telemetry }
-{
-    match decode_gcr(transitions) {
-        Decoded::Value(value) => DshotReply::from_value(value, extended_telemetry),
-        Decoded::Refused(error) => ReplyRead::Refused(error),
+        Ok(reading_of(v / 512, (v % 256) as u8))
     }
 }
 
 // Every layer at once: pin samples to a reply.
 #[inline(always)]
-pub fn decode_sampled_reply(samples: &[u16], pin_mask: u16, extended_telemetry: bool) -> ReplyRead
+pub fn decode_sampled_reply(
+    samples: &[u16],
+    pin_mask: u16,
+    extended_telemetry: bool,
+) -> Result<DshotReply, DshotReplyError>
     ensures { reply_answer result ≡ sampled_reply 3 samples.now pin_mask extended_telemetry }
 {
-    match reply_transitions(samples, pin_mask) {
-        Transitions::Word(transitions) => read_word(transitions, extended_telemetry),
-        Transitions::Refused(error) => ReplyRead::Refused(error),
-    }
+    let value = decode_gcr(reply_transitions(samples, pin_mask)?)?;
+    DshotReply::from_value(value, extended_telemetry)
 }

@@ -1,62 +1,105 @@
-// Added: all numbers of refusals: document 01's, 1 to 17 because of the input, 18 to 22 because of a bank's state; and document 02's, 24 to 26 for dumps.
+// Added: all refusals, with document 01's numbers: 1 to 17 because of the input, 18 to 22 because of a bank's state; and document 02's, 24 to 26 for
+// dumps.
 
-pub const ZERO_TIMER_CLOCK: u32 = 1;
+ghost use Rattle.std.specs.Prelude.{◌≡◌};
+ghost use Rattle.dshot_reply.specs.Answers.{error_number};
+ghost use Rattle.dshot_reply.specs.Refusals.{refusal_number, status_number};
 
-pub const ZERO_BITRATE: u32 = 2;
+use crate::DshotReplyError;
 
-pub const PERIOD_TOO_SHORT: u32 = 3;
+#[derive(Clone, Copy, Debug, PartialEq, Eq)]
+pub enum Refusal {
+    ZeroTimerClock,
+    ZeroBitrate,
+    PeriodTooShort,
+    PeriodTooLong,
+    ValueOutOfRange,
+    ThrottleOutOfRange,
+    NoReply,
+    Overlong,
+    InvalidSymbol,
+    WrongChecksum,
+    ZeroPeriod,
+    // A capture is to be made with mask 0.
+    NoMask,
+    // The lane does not exist: its number is too large.
+    NoSuchMotor,
+    WrongLength,
+    WrongDuty,
+    WrongPacketChecksum,
+    PeriodOutOfRange,
+    NotACapture,
+    // ---- because of a bank's state
+    BankFaulted,
+    MotorsRunning,
+    CommandPending,
+    TelemetryPending,
+    RepliesUnsupported,
+    // ---- dumps
+    // The text breaks the syntax, an argument is out of its range, or a sample has no level.
+    BrokenDump,
+    // The name is declared never or more than once.
+    NotDeclaredOnce,
+    // A time is smaller than the one before it.
+    TimeFalls,
+}
 
-pub const PERIOD_TOO_LONG: u32 = 4;
+impl Refusal {
+    // The number of a refusal in documents 01 and 02.
+    pub fn number(self) -> u32
+        ensures { result ≡ refusal_number self }
+    {
+        match self {
+            Refusal::ZeroTimerClock => 1,
+            Refusal::ZeroBitrate => 2,
+            Refusal::PeriodTooShort => 3,
+            Refusal::PeriodTooLong => 4,
+            Refusal::ValueOutOfRange => 5,
+            Refusal::ThrottleOutOfRange => 6,
+            Refusal::NoReply => 7,
+            Refusal::Overlong => 8,
+            Refusal::InvalidSymbol => 9,
+            Refusal::WrongChecksum => 10,
+            Refusal::ZeroPeriod => 11,
+            Refusal::NoMask => 12,
+            Refusal::NoSuchMotor => 12,
+            Refusal::WrongLength => 13,
+            Refusal::WrongDuty => 14,
+            Refusal::WrongPacketChecksum => 15,
+            Refusal::PeriodOutOfRange => 16,
+            Refusal::NotACapture => 17,
+            Refusal::BankFaulted => 18,
+            Refusal::MotorsRunning => 19,
+            Refusal::CommandPending => 20,
+            Refusal::TelemetryPending => 21,
+            Refusal::RepliesUnsupported => 22,
+            Refusal::BrokenDump => 24,
+            Refusal::NotDeclaredOnce => 25,
+            Refusal::TimeFalls => 26,
+        }
+    }
+}
 
-pub const VALUE_OUT_OF_RANGE: u32 = 5;
+// The number of a refusal, or 0 if the call is done.
+pub fn status_number(status: Result<(), Refusal>) -> u32
+    ensures { result ≡ status_number status }
+{
+    match status {
+        Ok(()) => 0,
+        Err(refusal) => refusal.number(),
+    }
+}
 
-pub const THROTTLE_OUT_OF_RANGE: u32 = 6;
+impl From<DshotReplyError> for Refusal {
+    ghost from_gives = { λ e r. refusal_number r ≡ error_number e };
 
-pub const NO_REPLY: u32 = 7;
-
-pub const OVERLONG: u32 = 8;
-
-pub const INVALID_SYMBOL: u32 = 9;
-
-pub const WRONG_CHECKSUM: u32 = 10;
-
-pub const ZERO_PERIOD: u32 = 11;
-
-// A capture is to be made with mask 0.
-pub const NO_MASK: u32 = 12;
-
-// The lane does not exist: its number is too large.
-pub const NO_SUCH_MOTOR: u32 = 12;
-
-pub const WRONG_LENGTH: u32 = 13;
-
-pub const WRONG_DUTY: u32 = 14;
-
-pub const WRONG_PACKET_CHECKSUM: u32 = 15;
-
-pub const PERIOD_OUT_OF_RANGE: u32 = 16;
-
-pub const NOT_A_CAPTURE: u32 = 17;
-
-// ---- because of a bank's state
-
-pub const BANK_FAULTED: u32 = 18;
-
-pub const MOTORS_RUNNING: u32 = 19;
-
-pub const COMMAND_PENDING: u32 = 20;
-
-pub const TELEMETRY_PENDING: u32 = 21;
-
-pub const REPLIES_UNSUPPORTED: u32 = 22;
-
-// ---- dumps
-
-// The text breaks the syntax, an argument is out of its range, or a sample has no level.
-pub const BROKEN_DUMP: u32 = 24;
-
-// The name is declared never or more than once.
-pub const NOT_DECLARED_ONCE: u32 = 25;
-
-// A time is smaller than the one before it.
-pub const TIME_FALLS: u32 = 26;
+    fn from(error: DshotReplyError) -> Refusal {
+        match error {
+            DshotReplyError::NoReply => Refusal::NoReply,
+            DshotReplyError::Overlong => Refusal::Overlong,
+            DshotReplyError::InvalidSymbol => Refusal::InvalidSymbol,
+            DshotReplyError::Checksum => Refusal::WrongChecksum,
+            DshotReplyError::ZeroPeriod => Refusal::ZeroPeriod,
+        }
+    }
+}
