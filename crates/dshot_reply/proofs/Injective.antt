@@ -1,29 +1,54 @@
 -- The definitions that give each enum document 01's numbers and values are injective. So the equation of a promise determines the answer.
 -- Assumes nothing.
 use mathlib.Core.Path.{◌≡◌, refl, ap}
+use mathlib.Core.Bool.{false}
 use Prim.Native.Nat.{ℕ}
 use lib.Dec.{eqb}
 use Rattle.dshot_reply_spec.proofs.Inverse.{injective}
 use Rattle.dshot_reply_spec.specs.Answer.{Answer, given, refused, pick}
 use Rattle.dshot_reply_spec.specs.Value.{Reading, erpm, temp, volt, amp, debug, state, edt}
 use Rattle.dshot_reply_spec.specs.ValuePeriod as Told
-use Rattle.dshot_reply.specs.Answers.{error_number, transitions_answer, decoded_answer, reading, reply_answer, value_period_answer, period_answer, simulated_number}
+use Rattle.std.specs.Prelude.{Result, Ok, Err}
+use Rattle.dshot_reply.specs.Answers.{answer, error_number, number_answer, period_told, reading, reply_answer, value_period_answer, period_answer, simulate_error_number, simulated_number, status}
 use Rattle.dshot_reply.specs.declared.DshotReplyError.{DshotReplyError}
 use Rattle.dshot_reply.specs.declared.DshotReplyError.TheVariants.{NoReply, Overlong, InvalidSymbol, Checksum, ZeroPeriod}
-use Rattle.dshot_reply.specs.declared.Transitions.{Transitions}
-use Rattle.dshot_reply.specs.declared.Transitions.TheVariants as Bits
-use Rattle.dshot_reply.specs.declared.Decoded.{Decoded}
-use Rattle.dshot_reply.specs.declared.Decoded.TheVariants as Code
 use Rattle.dshot_reply.specs.declared.DshotReply.{DshotReply}
 use Rattle.dshot_reply.specs.declared.DshotReply.TheVariants.{Erpm, Temperature, Voltage, Current, Debug, StateEvent, ExtendedTelemetryEnabled}
-use Rattle.dshot_reply.specs.declared.ReplyRead.{ReplyRead}
-use Rattle.dshot_reply.specs.declared.ReplyRead.TheVariants as Read
 use Rattle.dshot_reply.specs.declared.period.ValuePeriod.{ValuePeriod}
-use Rattle.dshot_reply.specs.declared.period.ValuePeriod.TheVariants as Stands
-use Rattle.dshot_reply.specs.declared.simulate.PeriodValue.{PeriodValue}
-use Rattle.dshot_reply.specs.declared.simulate.PeriodValue.TheVariants as Period
-use Rattle.dshot_reply.specs.declared.simulate.Simulated.{Simulated}
-use Rattle.dshot_reply.specs.declared.simulate.Simulated.TheVariants.{Written, NoMask, WrongLength}
+use Rattle.dshot_reply.specs.declared.simulate.SimulateError.{SimulateError}
+use Rattle.dshot_reply.specs.declared.simulate.SimulateError.TheVariants.{PeriodOutOfRange, NoMask, WrongLength}
+
+-- ---- for any meaning of the value and any numbers of the errors that are taken back
+
+module _ {T E A : Type 0} (meaning : T → A) (value_of : A → T) (number : E → ℕ) (error_of : ℕ → E)
+    (value-back : (t : T) → value_of (meaning t) ≡ t) (error-back : (e : E) → error_of (number e) ≡ e) where
+  result_of : Answer A → Result T E
+  result_of (given a) = Ok (value_of a)
+  result_of (refused n) = Err (error_of n)
+
+  answer-back : (r : Result T E) → result_of (answer meaning number r) ≡ r
+  unfolding result_of
+  answer-back (Ok t) = ap (λ (x : T). Ok x) (value-back t)
+  answer-back (Err e) = ap (λ (x : E). Err x) (error-back e)
+
+  pub answer-injective : (r s : Result T E) → answer meaning number r ≡ answer meaning number s → r ≡ s
+  answer-injective = injective (answer meaning number) result_of answer-back
+
+-- no error has the number 0
+module _ {E : Type 0} (number : E → ℕ) (error_of : ℕ → E)
+    (positive : (e : E) → eqb (number e) 0 ≡ false) (error-back : (e : E) → error_of (number e) ≡ e) where
+  done_or : ℕ → Result Unit E
+  done_or n = pick (eqb n 0) (Ok tt) (Err (error_of n))
+
+  status-back : (r : Result Unit E) → done_or (status number r) ≡ r
+  unfolding done_or
+  status-back (Ok tt) = refl
+  status-back (Err e) = rw (positive e) (ap (λ (x : E). Err x) (error-back e))
+
+  pub status-injective : (r s : Result Unit E) → status number r ≡ status number s → r ≡ s
+  status-injective = injective (status number) done_or status-back
+
+-- ---- the errors and answers of this crate
 
 error_of : ℕ → DshotReplyError
 error_of n = pick (eqb n 7) NoReply (pick (eqb n 8) Overlong (pick (eqb n 9) InvalidSymbol (pick (eqb n 10) Checksum ZeroPeriod)))
@@ -39,29 +64,8 @@ error-back ZeroPeriod = refl
 pub error_number-injective : (e f : DshotReplyError) → error_number e ≡ error_number f → e ≡ f
 error_number-injective = injective error_number error_of error-back
 
-transitions_of_answer : Answer ℕ → Transitions
-transitions_of_answer (given w) = Bits.Word w
-transitions_of_answer (refused n) = Bits.Refused (error_of n)
-
-transitions-back : (t : Transitions) → transitions_of_answer (transitions_answer t) ≡ t
-unfolding transitions_of_answer
-transitions-back (Bits.Word w) = refl
-transitions-back (Bits.Refused e) = ap (λ (x : DshotReplyError). Bits.Refused x) (error-back e)
-
-pub transitions_answer-injective : (t u : Transitions) → transitions_answer t ≡ transitions_answer u → t ≡ u
-transitions_answer-injective = injective transitions_answer transitions_of_answer transitions-back
-
-decoded_of_answer : Answer ℕ → Decoded
-decoded_of_answer (given v) = Code.Value v
-decoded_of_answer (refused n) = Code.Refused (error_of n)
-
-decoded-back : (d : Decoded) → decoded_of_answer (decoded_answer d) ≡ d
-unfolding decoded_of_answer
-decoded-back (Code.Value v) = refl
-decoded-back (Code.Refused e) = ap (λ (x : DshotReplyError). Code.Refused x) (error-back e)
-
-pub decoded_answer-injective : (d e : Decoded) → decoded_answer d ≡ decoded_answer e → d ≡ e
-decoded_answer-injective = injective decoded_answer decoded_of_answer decoded-back
+pub number_answer-injective : (t u : Result ℕ DshotReplyError) → number_answer t ≡ number_answer u → t ≡ u
+number_answer-injective = answer-injective (λ n. n) (λ n. n) error_number error_of (λ n. refl) error-back
 
 reply_of_reading : Reading → DshotReply
 reply_of_reading (erpm n) = Erpm n
@@ -82,50 +86,35 @@ reading-back (Debug channel n) = refl
 reading-back (StateEvent n) = refl
 reading-back ExtendedTelemetryEnabled = refl
 
-read_of_answer : Answer Reading → ReplyRead
-read_of_answer (given r) = Read.Reply (reply_of_reading r)
-read_of_answer (refused n) = Read.Refused (error_of n)
+pub reply_answer-injective : (r s : Result DshotReply DshotReplyError) → reply_answer r ≡ reply_answer s → r ≡ s
+reply_answer-injective = answer-injective reading reply_of_reading error_number error_of reading-back error-back
 
-read_back : (r : ReplyRead) → read_of_answer (reply_answer r) ≡ r
-unfolding read_of_answer
-read_back (Read.Reply r) = ap (λ (x : DshotReply). Read.Reply x) (reading-back r)
-read_back (Read.Refused e) = ap (λ (x : DshotReplyError). Read.Refused x) (error-back e)
+period_of_told : Told.Period → ValuePeriod
+period_of_told q = record { period_us = q.microseconds; step_us = q.step }
 
-pub reply_answer-injective : (r s : ReplyRead) → reply_answer r ≡ reply_answer s → r ≡ s
-reply_answer-injective = injective reply_answer read_of_answer read_back
+told-back : (p : ValuePeriod) → period_of_told (period_told p) ≡ p
+unfolding period_of_told
+told-back p = refl
 
-value_period_of_answer : Answer Told.Period → ValuePeriod
-value_period_of_answer (given q) = Stands.Period q.microseconds q.step
-value_period_of_answer (refused n) = Stands.ZeroPeriod
+pub value_period_answer-injective : (p q : Result ValuePeriod DshotReplyError) → value_period_answer p ≡ value_period_answer q → p ≡ q
+value_period_answer-injective = answer-injective period_told period_of_told error_number error_of told-back error-back
 
-value-period-back : (p : ValuePeriod) → value_period_of_answer (value_period_answer p) ≡ p
-unfolding value_period_of_answer
-value-period-back (Stands.Period p s) = refl
-value-period-back Stands.ZeroPeriod = refl
+simulate_error_of : ℕ → SimulateError
+simulate_error_of n = pick (eqb n 12) NoMask (pick (eqb n 13) WrongLength PeriodOutOfRange)
 
-pub value_period_answer-injective : (p q : ValuePeriod) → value_period_answer p ≡ value_period_answer q → p ≡ q
-value_period_answer-injective = injective value_period_answer value_period_of_answer value-period-back
+simulate-error-back : (e : SimulateError) → simulate_error_of (simulate_error_number e) ≡ e
+unfolding simulate_error_of
+simulate-error-back PeriodOutOfRange = refl
+simulate-error-back NoMask = refl
+simulate-error-back WrongLength = refl
 
-period_of_answer : Answer ℕ → PeriodValue
-period_of_answer (given v) = Period.Value v
-period_of_answer (refused n) = Period.OutOfRange
+simulate-error-positive : (e : SimulateError) → eqb (simulate_error_number e) 0 ≡ false
+simulate-error-positive PeriodOutOfRange = refl
+simulate-error-positive NoMask = refl
+simulate-error-positive WrongLength = refl
 
-period-back : (p : PeriodValue) → period_of_answer (period_answer p) ≡ p
-unfolding period_of_answer
-period-back (Period.Value v) = refl
-period-back Period.OutOfRange = refl
+pub period_answer-injective : (p q : Result ℕ SimulateError) → period_answer p ≡ period_answer q → p ≡ q
+period_answer-injective = answer-injective (λ n. n) (λ n. n) simulate_error_number simulate_error_of (λ n. refl) simulate-error-back
 
-pub period_answer-injective : (p q : PeriodValue) → period_answer p ≡ period_answer q → p ≡ q
-period_answer-injective = injective period_answer period_of_answer period-back
-
-simulated_of : ℕ → Simulated
-simulated_of n = pick (eqb n 0) Written (pick (eqb n 12) NoMask WrongLength)
-
-simulated-back : (s : Simulated) → simulated_of (simulated_number s) ≡ s
-unfolding simulated_of
-simulated-back Written = refl
-simulated-back NoMask = refl
-simulated-back WrongLength = refl
-
-pub simulated_number-injective : (s t : Simulated) → simulated_number s ≡ simulated_number t → s ≡ t
-simulated_number-injective = injective simulated_number simulated_of simulated-back
+pub simulated_number-injective : (s t : Result Unit SimulateError) → simulated_number s ≡ simulated_number t → s ≡ t
+simulated_number-injective = status-injective simulate_error_number simulate_error_of simulate-error-positive simulate-error-back

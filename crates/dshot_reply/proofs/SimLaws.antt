@@ -1,4 +1,4 @@
--- Laws of the buffer into which the simulated ESC writes a word, s samples a bit, and of its three answers.
+-- Laws of the buffer into which the simulated ESC writes a word, s samples a bit, and of its answers.
 -- Assumes nothing.
 use mathlib.Core.Path.{◌≡◌, sym, refl, ap, ◌∙◌}
 use mathlib.Core.Bool.{Bool, true, false}
@@ -9,8 +9,6 @@ use lib.ListN.{length, take, drop, replicate, length-append, length-replicate, l
 use lib.Seq.{take-add, take_at, drop_at, drop-drop, length-take-le, take_all}
 use borrow.Author.Tests.{ltb-false, eqb-false}
 use lib.Dec.{eqb, ltb}
-use Rattle.dshot_reply.specs.declared.simulate.Simulated.{Simulated}
-use Rattle.dshot_reply.specs.declared.simulate.Simulated.TheVariants.{Written}
 use Rattle.dshot_reply_spec.proofs.Simulated.{simulated-written}
 use Rattle.dshot_reply_spec.proofs.SimulatedRenders.{length-bits}
 use Rattle.dshot_reply_spec.specs.Answer.{filled, given, pick, refusal_number, refused}
@@ -18,8 +16,10 @@ use Rattle.dshot_reply_spec.specs.Refusals.{no_mask, wrong_length}
 use Rattle.dshot_reply_spec.specs.Gcr.{reply_word}
 use Rattle.dshot_reply_spec.specs.Move.{bit}
 use Rattle.dshot_reply_spec.specs.Simulate.{bit_levels, level_sample, next_level, simulated, word_levels, word_samples}
-use Rattle.dshot_reply.specs.Answers.{simulated_number}
+use Rattle.dshot_reply.specs.Answers.{simulate_error_number}
 use Rattle.dshot_reply.specs.Steps.{simulated_refusal}
+use Rattle.dshot_reply.specs.declared.simulate.SimulateError.{SimulateError}
+use Rattle.dshot_reply.specs.declared.simulate.SimulateError.TheVariants.{PeriodOutOfRange, NoMask, WrongLength}
 
 map_same : (f : Bool → ℕ) (n : ℕ) (b : Bool) → map f (replicate n b) ≡ replicate n (f b)
 map_same f zero b = refl
@@ -99,34 +99,40 @@ module _ (s w lead m n : ℕ) (fits : lead + 21 * s ≤ n) where
       (map-join (level_sample m) (bit_levels s true 21 w) (replicate j true)
       ∙ ap (λ (l : List ℕ). all_samples s w m ++ l) (map_same (level_sample m) j true)))
 
--- ---- the three answers
+-- ---- the answers
+
+-- no refusal has the number 0
+pub nonzero : (e : SimulateError) → simulate_error_number e ≡ 0 → ⊥
+nonzero PeriodOutOfRange h = omega arith
+nonzero NoMask h = omega arith
+nonzero WrongLength h = omega arith
 
 module _ (s : ℕ) (out : List ℕ) (v lead m : ℕ) where
-  -- a call that answers so, and leaves a buffer so, does as the simulated ESC
-  abbrev pub Answers : Simulated → List ℕ → Type 0
-  Answers r o = (simulated_number r ≡ refusal_number (simulated s out v lead m)) × (o ≡ filled (λ l. l) out (simulated s out v lead m))
-
   -- a refusal has the number of the simulated ESC's, and leaves the buffer
-  pub kept : (r : Simulated) → simulated_number r ≡ simulated_refusal s (length out) lead m → (simulated_number r ≡ 0 → ⊥) → Answers r out
+  pub refused_so : (n : ℕ) → n ≡ simulated_refusal s (length out) lead m → (n ≡ 0 → ⊥)
+      → (n ≡ refusal_number (simulated s out v lead m)) × (out ≡ filled (λ l. l) out (simulated s out v lead m))
   unfolding simulated_refusal simulated
-  kept r e n = go (ltb (length out) (lead + 23 * s)) (eqb m 0) e
+  refused_so n e no_zero = go (ltb (length out) (lead + 23 * s)) (eqb m 0) e
     where
-      go : (b c : Bool) → simulated_number r ≡ pick b wrong_length (pick c no_mask 0)
-          → (simulated_number r ≡ refusal_number (pick b (refused wrong_length) (pick c (refused no_mask) (given (word_samples s (reply_word v) lead m (length out))))))
+      go : (b c : Bool) → n ≡ pick b wrong_length (pick c no_mask 0)
+          → (n ≡ refusal_number (pick b (refused wrong_length) (pick c (refused no_mask) (given (word_samples s (reply_word v) lead m (length out))))))
           × (out ≡ filled (λ l. l) out (pick b (refused wrong_length) (pick c (refused no_mask) (given (word_samples s (reply_word v) lead m (length out))))))
       go true c q = (q, refl)
       go false true q = (q, refl)
-      go false false q = absurd (n q)
+      go false false q = absurd (no_zero q)
 
-  -- an answer of 0 has room and a mask
-  pub accepted : (k : ℕ) → k ≡ simulated_refusal s (length out) lead m → k ≡ 0 → (lead + 23 * s ≤ length out) × (m ≡ 0 → ⊥)
+  -- a call that is not refused has room and a mask
+  pub accepted : 0 ≡ simulated_refusal s (length out) lead m → (lead + 23 * s ≤ length out) × (m ≡ 0 → ⊥)
   unfolding simulated_refusal
-  accepted k e z = go (ltb (length out) (lead + 23 * s)) refl (eqb m 0) refl (sym z ∙ e)
+  accepted z = go (ltb (length out) (lead + 23 * s)) refl (eqb m 0) refl z
     where
       go : (b : Bool) → ltb (length out) (lead + 23 * s) ≡ b → (c : Bool) → eqb m 0 ≡ c → ◌≡◌ {A = ℕ} 0 (pick b wrong_length (pick c no_mask 0)) → (lead + 23 * s ≤ length out) × (m ≡ 0 → ⊥)
       go true p c q z = absurd (omega arith)
       go false p true q z = absurd (omega arith)
       go false p false q z = (ltb-false (length out) (lead + 23 * s) p, eqb-false m 0 q)
 
-  pub all-written : 0 < s → lead + 23 * s ≤ length out → (m ≡ 0 → ⊥) → Answers Written (word_samples s (reply_word v) lead m (length out))
-  all-written pos h n = (rw (simulated-written s pos out v lead m h n), rw (simulated-written s pos out v lead m h n))
+  pub all-written : 0 < s → 0 ≡ simulated_refusal s (length out) lead m
+      → (0 ≡ refusal_number (simulated s out v lead m)) × (word_samples s (reply_word v) lead m (length out) ≡ filled (λ l. l) out (simulated s out v lead m))
+  all-written pos z =
+      let a = accepted z in
+      (rw (simulated-written s pos out v lead m a.0 a.1), rw (simulated-written s pos out v lead m a.0 a.1))

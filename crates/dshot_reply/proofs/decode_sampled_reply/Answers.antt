@@ -1,21 +1,23 @@
 -- `dshot_reply::decode_sampled_reply` meets its contract.
 -- Assumes nothing.
-use mathlib.Core.Path.{sym, ap, ◌∙◌}
-use Prim.Native.Nat.{ℕ}
-use Rattle.dshot_reply_spec.specs.Answer.{Answer, and_then}
+use mathlib.Core.Path.{◌≡◌}
+use borrow.Author.Rules.{rules}
+use Rattle.std.proofs.Common.{Err}
 use Rattle.dshot_reply_spec.specs.Reading.{sampled_reply, word_reply}
-use Rattle.dshot_reply.specs.Answers.{transitions_answer}
 use Rattle.dshot_reply.proofs.decode_sampled_reply.Goals as goal
 
-pub returns-in-Word : goal.returns-in-Word
+pub returns-in_err-reply_transitions : goal.returns-in_err-reply_transitions
 unfolding sampled_reply
-returns-in-Word c =
-    c.read_word.ensures
-    ∙ ap (λ (t : Answer ℕ). and_then t (λ w. word_reply w c.args.extended_telemetry))
-    (sym (ap transitions_answer c.in-Word.is) ∙ c.reply_transitions.ensures)
+returns-in_err-reply_transitions c =
+    let e : c.from_residual.result ≡ Err c.in_err-reply_transitions.field-0.0 = search rules in
+    rw (e, ← c.in_err-reply_transitions.ensures)
 
-pub returns-in-Refused : goal.returns-in-Refused
-unfolding sampled_reply
-returns-in-Refused c =
-    ap (λ (t : Answer ℕ). and_then t (λ w. word_reply w c.args.extended_telemetry))
-    (sym (ap transitions_answer c.in-Refused.is) ∙ c.reply_transitions.ensures)
+pub returns-in_err-value : goal.returns-in_err-value
+unfolding sampled_reply word_reply
+returns-in_err-value c =
+    let e : c.from_residual-in_err-value.result ≡ Err c.in_err-value.field-0.0 = search rules in
+    rw (e, ← c.in_ok-reply_transitions.ensures, ← c.in_err-value.ensures)
+
+pub returns : goal.returns
+unfolding sampled_reply word_reply
+returns c = rw (← c.in_ok-reply_transitions.ensures, ← c.in_ok-value.ensures) c.from_value.ensures

@@ -1,25 +1,28 @@
--- `dshot_reply::reading_of` meets its contract.
+-- `dshot_reply::reading_of` meets its contract, in each arm of its match.
 -- Assumes nothing.
-use borrow.Author.Tests.{eq-eqb, ne_eqb}
+use native.Mathlib.Omega.{arith}
+use borrow.Author.Tests.{ne_eqb}
 use Rattle.dshot_reply_spec.specs.Value.{reading_of}
 use Rattle.dshot_reply.proofs.reading_of.Goals as goal
 
-pub returns-then-kind-eq1 : goal.returns-then-kind-eq1
+pub returns-in-1 : goal.returns-in-1
 unfolding reading_of
-returns-then-kind-eq1 c = simp (eq-eqb _ 1 c.if-kind-eq1.true)
+returns-in-1 c = rw c.in-1.is
 
-pub returns-then-kind-eq2 : goal.returns-then-kind-eq2
+pub returns-in-2 : goal.returns-in-2
 unfolding reading_of
-returns-then-kind-eq2 c = simp (ne_eqb _ 1 c.if-kind-eq1.false, eq-eqb _ 2 c.if-kind-eq2.true)
+returns-in-2 c = rw c.in-2.is
 
-pub returns-then-kind-eq3 : goal.returns-then-kind-eq3
+pub returns-in-3 : goal.returns-in-3
 unfolding reading_of
-returns-then-kind-eq3 c = simp (ne_eqb _ 1 c.if-kind-eq1.false, ne_eqb _ 2 c.if-kind-eq2.false, eq-eqb _ 3 c.if-kind-eq3.true)
+returns-in-3 c = rw c.in-3.is
 
-pub returns-then-kind-eq7 : goal.returns-then-kind-eq7
+pub returns-in-7 : goal.returns-in-7
 unfolding reading_of
-returns-then-kind-eq7 c = simp (ne_eqb _ 1 c.if-kind-eq1.false, ne_eqb _ 2 c.if-kind-eq2.false, ne_eqb _ 3 c.if-kind-eq3.false, eq-eqb _ 7 c.if-kind-eq7.true)
+returns-in-7 c = rw c.in-7.is
 
-pub returns : goal.returns
+pub returns-in_default : goal.returns-in_default
 unfolding reading_of
-returns c = simp (ne_eqb _ 1 c.if-kind-eq1.false, ne_eqb _ 2 c.if-kind-eq2.false, ne_eqb _ 3 c.if-kind-eq3.false, ne_eqb _ 7 c.if-kind-eq7.false)
+returns-in_default c =
+    let n = c.args.kind in
+    rw (ne_eqb n 1 (λ e. omega arith), ne_eqb n 2 (λ e. omega arith), ne_eqb n 3 (λ e. omega arith), ne_eqb n 7 (λ e. omega arith))

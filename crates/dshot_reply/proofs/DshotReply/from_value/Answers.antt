@@ -1,5 +1,6 @@
 -- `dshot_reply::DshotReply::from_value` meets its contract.
 -- Assumes nothing.
+use Rattle.std.proofs.Common.{inl, inr}
 use borrow.Author.Tests.{eq-eqb, ne_eqb}
 use Rattle.dshot_reply_spec.specs.Value.{reply_of}
 use Rattle.dshot_reply.proofs.DshotReply.from_value.Goals as goal
@@ -14,16 +15,15 @@ returns-then-not-extended_telemetry c = simp (c.if-not-extended_telemetry.true, 
 
 pub returns-then-kind-eq1 : goal.returns-then-kind-eq1
 unfolding reply_of
-returns-then-kind-eq1 c = simp (c.if-not-extended_telemetry.false-raw, eq-eqb _ 1 c.if-kind-eq1.true, c.speed_value-then-kind-eq1.ensures)
-
-pub returns-then-kind-eq0 : goal.returns-then-kind-eq0
-unfolding reply_of
-returns-then-kind-eq0 c =
-    simp
-    (c.if-not-extended_telemetry.false-raw, ne_eqb _ 1 c.if-kind-eq1.false, eq-eqb _ 0 c.if-kind-eq0.true, c.speed_value-then-kind-eq0.ensures)
+returns-then-kind-eq1 c =
+    let on = c.if-not-extended_telemetry.false in
+    let speed = c.speed_value-then-kind-eq1.ensures in
+    elim c.then-kind-eq1.either [
+      | inl odd ↦ simp (on, eq-eqb _ 1 odd, speed)
+      | inr zero ↦ simp (on, ne_eqb _ 1 zero.0, eq-eqb _ 0 zero.1, speed)
+    ]
 
 pub returns : goal.returns
 unfolding reply_of
 returns c =
-    simp
-    (c.if-not-extended_telemetry.false-raw, ne_eqb _ 1 c.if-kind-eq1.false, ne_eqb _ 0 c.if-kind-eq0.false, c.reading_of.ensures)
+    simp (c.if-not-extended_telemetry.false, ne_eqb _ 1 c.if-kind-eq1.false, ne_eqb _ 0 c.if-kind-eq0.false, c.reading_of.ensures)
