@@ -1,1 +1,2 @@
+pub mod CaptureLaws
 pub mod NumberLaws

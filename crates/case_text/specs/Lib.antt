@@ -1,3 +1,3 @@
 pub mod Numbers
-pub mod Steps
 pub mod Answers
+pub mod Captures

@@ -1,25 +1,28 @@
 -- What the reader of a line finds in its bytes.
 -- Assumes nothing.
-use Rattle.std.specs.Prelude.{ℕ, suc, ◌+◌, ◌-◌, ◌*◌, List, [], ◌∷◌, eqb, ltb, length, drop, if◌then◌else◌}
-use Rattle.case_text.specs.declared.numbers.Read.{Read}
-use Rattle.case_text.specs.declared.numbers.Read.TheVariants.{Number, Broken}
+use Rattle.std.specs.Prelude.{ℕ, suc, ◌+◌, ◌-◌, ◌*◌, Option, Some, None, List, [], ◌∷◌, eqb, ltb, length, drop, if◌then◌else◌}
 
 -- how many bytes stand before the first byte b; if there is none, all of them
 abbrev pub before : ℕ → List ℕ → ℕ
 before b [] = 0
 before b (x ∷ xs) = if eqb x b then 0 else suc (before b xs)
 
--- the digit that a byte is in ASCII; 10 if it is no digit
-unfoldable pub digit_of : ℕ → ℕ
+-- the digit that a byte is in ASCII, if it is one
+abbrev pub digit_of : ℕ → Option ℕ
 digit_of b =
-    if ltb b 48 then 10 else
-    if ltb 57 b then 10 else
-    b - 48
+    if ltb b 48 then None else
+    if ltb 57 b then None else
+    Some (b - 48)
+
+-- a digit before the digits after it; none if there is no digit
+abbrev pub digit_before : Option ℕ → List ℕ → List ℕ
+digit_before None ds = []
+digit_before (Some d) ds = d ∷ ds
 
 -- the digits at the start of bytes
 abbrev pub digits : List ℕ → List ℕ
 digits [] = []
-digits (b ∷ bs) = if eqb (digit_of b) 10 then [] else digit_of b ∷ digits bs
+digits (b ∷ bs) = digit_before (digit_of b) (digits bs)
 
 -- the number that v and the digits after it make
 abbrev pub numeral : ℕ → List ℕ → ℕ
@@ -30,14 +33,14 @@ numeral v (d ∷ ds) = numeral (v * 10 + d) ds
 abbrev pub past64 : ℕ
 past64 = 18446744073709551616
 
--- a number that stands from one place to another; if the places are the same, none
-unfoldable pub ended : ℕ → ℕ → ℕ → Read
-ended value from to = if eqb from to then Broken else Number value to
+-- a number that stands from one place to another, and that place; if the places are the same, none
+unfoldable pub ended : ℕ → ℕ → ℕ → Option (ℕ × ℕ)
+ended value from to = if eqb from to then None else Some (value, to)
 
 -- The number of some digits that start at a place, and the place after them. If there is no digit, or the number does not fit 64 bits, there is none.
-unfoldable pub number_of : List ℕ → ℕ → Read
-number_of ds from = if ltb (numeral 0 ds) past64 then ended (numeral 0 ds) from (from + length ds) else Broken
+unfoldable pub number_of : List ℕ → ℕ → Option (ℕ × ℕ)
+number_of ds from = if ltb (numeral 0 ds) past64 then ended (numeral 0 ds) from (from + length ds) else None
 
 -- the number whose digits start at a place of a text
-abbrev pub number_at : List ℕ → ℕ → Read
+abbrev pub number_at : List ℕ → ℕ → Option (ℕ × ℕ)
 number_at text from = number_of (digits (drop from text)) from

@@ -1,24 +1,15 @@
--- `case_text::numbers::find` meets its contract: none of the bytes from `from` to `i` is the one looked for. What is left of the text falls.
+-- `case_text::numbers::find` meets its contract.
 -- Assumes nothing.
-use native.Mathlib.Omega.{arith}
-use borrow.Author.Rules.{rules}
-use Rattle.case_text.proofs.NumberLaws.{before_here, before_more, before-none}
+use Rattle.std.proofs.Common.{rules, ◌≡◌, ◌≢◌, ◌+◌, ap, ◌∙◌, sym, refl, eq-eqb, ne_eqb, arith}
+use borrow.Author.Tests.{tests}
+use Rattle.std.proofs.lemmas.Iterator.{index_from_first, IsFirst-from_position, YieldsList-from_slice}
+use Rattle.case_text.specs.Numbers.{before}
 use Rattle.case_text.proofs.numbers.find.Goals as goal
 
-pub returns-then-text-i : goal.returns-then-text-i
-returns-then-text-i c =
-    let a = c.args in
-    let v = c.loop-i in
-    record { value = omega (arith, v.invariant.1, before_here a.byte a.text.now v.i (search rules) c.if-text-i.true); from_in_bounds = search rules }
-
-pub loop-i-preserved : goal.loop-i-preserved
-loop-i-preserved c =
-    let a = c.args in
-    let v = c.loop-i in
-    (search rules, omega (arith, v.invariant.1, before_more a.byte a.text.now v.i (search rules) c.if-text-i.false))
-
-pub returns : goal.returns
-returns c =
-    let a = c.args in
-    let v = c.loop-i in
-    record { value = omega (arith, v.invariant.1, before-none a.byte a.text.now v.i (search rules)); from_in_bounds = search rules }
+pub returns-clause-value : goal.returns-clause-value
+returns-clause-value c =
+    let b = c.args.byte in
+    let bs = c.rest-rest.result.now in
+    let first = IsFirst-from_position _ _ c.position.result (λ x. x ≡ b) (λ x. x ≢ b) c.position.ensures.ran (YieldsList-from_slice bs c.iter.ensures.rest) (λ x q k. search (rules, tests)) (λ x q k. search (rules, tests)) in
+    let counted = index_from_first (before b) (λ x. x ≡ b) (λ x. x ≢ b) refl (λ x xs e. rw (eq-eqb x b e)) (λ x xs n. rw (ne_eqb x b n) (omega arith)) bs c.position.result first in
+    ap (λ n. c.args.from + n) (c.unwrap_or.ensures ∙ sym counted ∙ ap (before b) c.rest-rest.ensures)
