@@ -1,24 +1,22 @@
 -- The levels of samples one at a time: the first low sample, the end of a run, and parts of the samples.
 -- Assumes nothing.
 use mathlib.Core.Path.{◌≡◌, sym, refl, ap, ◌∙◌}
-use mathlib.Core.Bool.{Bool, true, false, beq, ◌&&◌}
+use mathlib.Core.Bool.{Bool, true, false, beq, not, ◌&&◌}
 use mathlib.Core.List.{List, [], ◌∷◌, map}
 use Prim.Native.Nat.{ℕ, zero, suc, zero-le, suc-le-suc, ◌+◌, ◌*◌, ◌-◌, ◌<◌, ◌≤◌, min}
 use native.Mathlib.Nat.{add-zero}
-use native.Mathlib.Numerals.{add-one}
 use native.Mathlib.Omega.{arith}
 use lib.Dec.{ltb}
-use lib.ListN.{length, get_or, take, drop, length-map, length-drop}
-use lib.Seq.{drop-cons, drop-length, drop-drop, take_all, length-take-le}
+use lib.ListN.{length, take, drop, length-map, length-drop}
+use lib.Seq.{drop-drop, take_all, length-take-le}
 use borrow.Author.Tests.{le-leb, lt-leb, ltb-true, ltb-false}
+use Rattle.std.specs.Prelude.{Some, None, unwrap_or, cond, fold}
+use Rattle.std.specs.List.{position, position_or_len}
+use Rattle.std.proofs.lemmas.List.Recursion.{is_position_or_len}
 use Rattle.dshot_reply_spec.specs.Answer.{pick, refused}
 use Rattle.dshot_reply_spec.specs.Refusals.{no_reply}
 use Rattle.dshot_reply_spec.specs.Runs.{assemble, first_low, from_levels, high, levels, runs_of, transitions_of}
 use Rattle.dshot_reply.specs.Steps.{same_for}
-
--- the levels from i on: that of sample i, then those from i + 1 on
-pub levels-next : (m : ℕ) (s : List ℕ) (i : ℕ) → i < length s → levels m (drop i s) ≡ high m (get_or s i 0) ∷ levels m (drop (i + 1) s)
-levels-next m s i h = rw (add-one, drop-cons s i 0)
 
 -- ---- how long a level lasts
 
@@ -36,35 +34,38 @@ pub same-most : (l : Bool) (ls : List Bool) → same_for l ls ≤ length ls
 same-most l [] = zero-le
 same-most l (b ∷ ls) = pick-most (beq b l) (same_for l ls) (length ls) (same-most l ls)
 
--- a step along the samples, at one of the level and at another
-module _ (m : ℕ) (s : List ℕ) (l h : Bool) (i : ℕ) (lt : i < length s) (seen : h ≡ high m (get_or s i 0)) where
-  next : same_for l (levels m (drop i s)) ≡ pick (beq h l) (suc (same_for l (levels m (drop (i + 1) s)))) 0
-  next = ap (same_for l) (levels-next m s i lt) ∙ rw (← seen)
+-- the samples at a level end at the first that is not
+pub same_position : (m : ℕ) (l : Bool) (s : List ℕ) → unwrap_or (position (λ x. not (beq (high m x) l)) s) (length s) ≡ same_for l (levels m s)
+same_position m l s = ap (λ (k : ℕ). unwrap_or (cond (ltb k (length s)) (Some k) None) (length s)) (sym ends) ∙ go (ltb (same_for l (levels m s)) (length s)) refl
+  where
+    past : ℕ → Bool
+    past x = not (beq (high m x) l)
 
-  pub same_more : beq h l ≡ true → same_for l (levels m (drop i s)) ≡ same_for l (levels m (drop (i + 1) s)) + 1
-  same_more e = next ∙ rw e (sym (add-one (same_for l (levels m (drop (i + 1) s)))))
+    step : (b : Bool) (k : ℕ) → pick b (suc k) 0 ≡ cond (not b) 0 (1 + k)
+    step true k = omega arith
+    step false k = refl
 
-  pub same_ends : beq h l ≡ false → same_for l (levels m (drop i s)) ≡ 0
-  same_ends e = next ∙ rw e
+    ends : same_for l (levels m s) ≡ position_or_len past s
+    ends = is_position_or_len (λ t. same_for l (levels m t)) past refl (λ x t. step (beq (high m x) l) (same_for l (levels m t))) s
 
-pub same_end : (m : ℕ) (s : List ℕ) (l : Bool) (i : ℕ) → i ≡ length s → same_for l (levels m (drop i s)) ≡ 0
-same_end m s l i e = rw (e, drop-length)
+    go : (t : Bool) → ltb (same_for l (levels m s)) (length s) ≡ t → unwrap_or (cond t (Some (same_for l (levels m s))) None) (length s) ≡ same_for l (levels m s)
+    go true e = refl
+    go false e =
+        let h = ltb-false (same_for l (levels m s)) (length s) e in
+        omega (arith, h, same-most l (levels m s), length-map s (high m))
 
--- k high samples from a place on
-abbrev pub HighFor : ℕ → List ℕ → ℕ → ℕ → Type 0
-HighFor m s at k = first_low (levels m (drop at s)) ≡ first_low (levels m (drop (at + k) s)) + k
+pub same-within : (m : ℕ) (l : Bool) (s : List ℕ) → same_for l (levels m s) ≤ length s
+same-within m l s = omega (arith, same-most l (levels m s), length-map s (high m))
 
-pub high-none : (m : ℕ) (s : List ℕ) (at : ℕ) → HighFor m s at 0
-high-none m s at = ap (λ (i : ℕ). first_low (levels m (drop i s))) (sym (add-zero at)) ∙ sym (add-zero (first_low (levels m (drop (at + 0) s))))
-
-pub high-more : (m : ℕ) (s : List ℕ) (at k : ℕ) (h b : Bool) → at + k < length s → b ≡ high m (get_or s (at + k) 0) → (h ≡ true → HighFor m s at k)
-    → (h && b) ≡ true → HighFor m s at (k + 1)
-high-more m s at k true b l e r t =
-    let f : at + k + 1 ≡ at + (k + 1) = omega arith in
-    let g : first_low (levels m (drop (at + k) s)) ≡ first_low (levels m (drop (at + (k + 1)) s)) + 1 =
-    ap first_low (levels-next m s (at + k) l) ∙ rw (← e, t, f) (sym (add-one _)) in
-    omega (arith, r refl)
-high-more m s at k false b l e r t = absurd (let z : ◌≡◌ {A = ℕ} 0 1 = cc in omega arith)
+-- if every one of some samples is high, no one is low
+pub all-high : (m : ℕ) (b : Bool) (s : List ℕ) → fold (λ c x. c && high m x) b s ≡ true → (b ≡ true) × (first_low (levels m s) ≡ length s)
+all-high m b [] e = (e, refl)
+all-high m b (x ∷ s) e = go b (high m x) refl (all-high m (b && high m x) s e)
+  where
+    go : (c h : Bool) → high m x ≡ h → ((c && h) ≡ true) × (first_low (levels m s) ≡ length s) → (c ≡ true) × (first_low (levels m (x ∷ s)) ≡ length (x ∷ s))
+    go true true q r = (refl, rw q (ap suc r.1))
+    go true false q r = absurd (let z : ◌≡◌ {A = ℕ} 0 1 = cc in omega arith)
+    go false h q r = absurd (let z : ◌≡◌ {A = ℕ} 0 1 = cc in omega arith)
 
 -- ---- parts
 
@@ -130,6 +131,18 @@ first_low-past zero ls l h = zero-le
 first_low-past (suc k) [] l h = absurd (omega arith)
 first_low-past (suc k) (true ∷ ls) l h = suc-le-suc (first_low-past k ls (omega arith) (omega arith))
 first_low-past (suc k) (false ∷ ls) l h = absurd (omega arith)
+
+first_low-over : (k : ℕ) (ls : List Bool) → k ≤ length ls → first_low (take k ls) ≡ k → first_low ls ≡ first_low (drop k ls) + k
+first_low-over zero ls l h = sym (add-zero (first_low ls))
+first_low-over (suc k) [] l h = absurd (omega arith)
+first_low-over (suc k) (true ∷ ls) l h = omega (arith, first_low-over k ls (omega arith) (omega arith))
+first_low-over (suc k) (false ∷ ls) l h = absurd (omega arith)
+
+-- past k high samples
+pub high-front : (m k : ℕ) (s : List ℕ) → k ≤ length s → first_low (levels m (take k s)) ≡ k → first_low (levels m s) ≡ first_low (levels m (drop k s)) + k
+high-front m k s l e =
+    first_low-over k (levels m s) (omega (arith, length-map s (high m))) (sym (ap first_low (map-take (high m) k s)) ∙ e)
+    ∙ ap (λ (t : List Bool). first_low t + k) (sym (map-drop (high m) k s))
 
 -- the two cases of `transitions_of`, with the start as the code has it
 pub no_start : (t m : ℕ) (s : List ℕ) (st : ℕ) → st ≡ first_low (levels m s) → length s - st < 19 * t → transitions_of t s m ≡ refused no_reply

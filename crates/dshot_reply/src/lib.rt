@@ -18,7 +18,8 @@
 // The source's requirements: OUTPUT-003, OUTPUT-010, OUTPUT-011, OUTPUT-012, OUTPUT-013. Safety-critical.
 #![tactic(auto)]
 
-ghost use Rattle.std.specs.Prelude.{◌≡◌, ◌+◌, ◌*◌, ◌-◌, ◌^◌, ◌≤◌, ◌<◌, true, length, drop};
+ghost use Rattle.std.specs.Prelude.{◌≡◌, ◌+◌, ◌*◌, ◌-◌, ◌^◌, ◌≤◌, ◌<◌, true, not, ◌&&◌, fold, position, length, drop};
+ghost use Rattle.std.specs.Bool.{beq};
 ghost use Rattle.dshot_reply_spec.specs.Gcr.{symbol_of, nibble_of, reply_word, decode_word};
 ghost use Rattle.dshot_reply_spec.specs.Runs.{high, levels, first_low, run_bits, runs_of, assemble, transitions_of};
 ghost use Rattle.dshot_reply_spec.specs.Value.{speed_of, speed_value, reading_of, reply_of};
@@ -106,66 +107,55 @@ fn is_high(sample: u16, pin_mask: u16) -> bool
     sample & pin_mask != 0
 }
 
-// Whether the eight samples from a place on are high. It has no branch, so the eight are tested together.
-fn eight_high(samples: &[u16], at: usize, pin_mask: u16) -> bool
-    requires { at + 8 ≤ length samples.now }
-    ensures { result ≡ true → first_low (levels pin_mask (drop at samples.now)) ≡ first_low (levels pin_mask (drop (at + 8) samples.now)) + 8 }
+// Whether eight samples are high. It has no branch, so the eight are tested together.
+fn all_high(eight: &[u16; 8], pin_mask: u16) -> bool
+    ensures { result ≡ fold (λ all x. all && high pin_mask x) true eight.now }
 {
-    let mut all_high = true;
-    let mut k = 0;
-    while k < 8 {
-        all_high = all_high & is_high(samples[at + k], pin_mask);
-        k += 1;
-    }
-    all_high
+    eight
+        .iter()
+        .fold(true, |high, sample| high & is_high(*sample, pin_mask))
 }
 
-// Passes over high samples, eight at a time.
-fn skip_high(samples: &[u16], pin_mask: u16) -> usize
-    ensures { (result ≤ length samples.now) × (first_low (levels pin_mask samples.now) ≡ first_low (levels pin_mask (drop result samples.now)) + result) }
+// The place of the first sample that is not at `level`.
+fn first_off(samples: &[u16], pin_mask: u16, level: bool) -> Option<usize>
+    ensures { result ≡ position (λ x. not (beq (high pin_mask x) level)) samples.now }
 {
-    let mut i = 0;
-    while 8 <= samples.len() - i {
-        if !eight_high(samples, i, pin_mask) {
-            return i;
-        }
-        i += 8;
-    }
-    i
+    samples
+        .iter()
+        .position(|sample| is_high(*sample, pin_mask) != level)
 }
 
-// The place of the first sample from `from` on that is not at `level`. If there is none, the number of samples.
-fn run_end(samples: &[u16], pin_mask: u16, level: bool, from: usize) -> usize
-    requires { from ≤ length samples.now }
-    ensures { result ≡ from + same_for level (levels pin_mask (drop from samples.now)) }
+// How many samples from the first on are at `level`.
+fn run_length(samples: &[u16], pin_mask: u16, level: bool) -> usize
+    ensures value { result ≡ same_for level (levels pin_mask samples.now) }
+    ensures in_bounds { result ≤ length samples.now }
 {
-    let mut i = from;
-    while i < samples.len() {
-        if is_high(samples[i], pin_mask) != level {
-            return i;
-        }
-        i += 1;
-    }
-    i
+    first_off(samples, pin_mask, level).unwrap_or(samples.len())
 }
 
-// The same as `run_end`. Each level has a loop of its own, which is faster.
+// The place where the run that begins at `from` ends. Each level has a loop of its own, which is faster.
 fn next_edge(samples: &[u16], pin_mask: u16, level: bool, from: usize) -> usize
     requires { from ≤ length samples.now }
     ensures { result ≡ from + same_for level (levels pin_mask (drop from samples.now)) }
 {
     if level {
-        return run_end(samples, pin_mask, true, from);
+        return from + run_length(&samples[from..], pin_mask, true);
     }
-    run_end(samples, pin_mask, false, from)
+    from + run_length(&samples[from..], pin_mask, false)
 }
 
-// The place of the first low sample. If there is none, the number of samples.
+// The place of the first low sample. If there is none, the number of samples. It passes over high samples, eight at a time.
 fn first_low(samples: &[u16], pin_mask: u16) -> usize
     ensures { result ≡ first_low (levels pin_mask samples.now) }
 {
-    let passed = skip_high(samples, pin_mask);
-    run_end(samples, pin_mask, true, passed)
+    let mut left = samples;
+    while let Some((eight, rest)) = left.split_first_chunk() {
+        if !all_high(eight, pin_mask) {
+            break;
+        }
+        left = rest;
+    }
+    samples.len() - left.len() + run_length(left, pin_mask, true)
 }
 
 // The run's samples, rounded to the nearest bit and never under one.
@@ -368,6 +358,7 @@ pub fn decode_sampled_reply(
 ) -> Result<DshotReply, DshotReplyError>
     ensures { reply_answer result ≡ sampled_reply 3 samples.now pin_mask extended_telemetry }
 {
-    let value = decode_gcr(reply_transitions(samples, pin_mask)?)?;
+    let transitions = reply_transitions(samples, pin_mask)?;
+    let value = decode_gcr(transitions)?;
     DshotReply::from_value(value, extended_telemetry)
 }
