@@ -1,6 +1,6 @@
 -- The sum that the benchmark needs, modulo 2 ^ 32.
 -- Assumes nothing.
-use Rattle.std.specs.Prelude.{ℕ, ◌+◌, ◌*◌, ◌%◌, ◌^◌, List, [], ◌∷◌}
+use Rattle.std.specs.Prelude.{ℕ, ◌+◌, ◌*◌, ◌%◌, ◌^◌, List, fold}
 use Rattle.dshot_reply_spec.specs.Answer.{Answer, given, refused}
 use Rattle.dshot_reply_spec.specs.Gcr.{decode_word}
 
@@ -11,5 +11,4 @@ packed (refused n) = 65536 * n
 
 -- what the words decode to, added to s one by one
 abbrev pub total_from : ℕ → List ℕ → ℕ
-total_from s [] = s
-total_from s (w ∷ ws) = total_from ((s + packed (decode_word w)) % 2 ^ 32) ws
+total_from s ws = fold (λ sum w. (sum + packed (decode_word w)) % 2 ^ 32) s ws
