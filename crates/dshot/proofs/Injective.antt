@@ -1,39 +1,28 @@
 -- The definitions that give each enum and struct document 01's numbers and values are injective. So the equation of a promise determines the answer.
 -- Assumes nothing.
-use Rattle.std.proofs.Common.{◌≡◌, ℕ, eqb, List, [], ◌∷◌, map, refl, ap}
+use Rattle.std.proofs.Common.{◌≡◌, ℕ, eqb, List, [], ◌∷◌, map, false, Option, Some, None, Result, refl, ap}
 use Rattle.dshot_reply_spec.proofs.Inverse.{injective}
-use Rattle.dshot_reply_spec.specs.Answer.{Answer, given, refused, pick}
-use Rattle.dshot_spec.specs.Packet.{Kind, plain, inverted, Frame}
+use Rattle.dshot_reply_spec.specs.Answer.{pick}
+use Rattle.dshot_reply.proofs.Injective.{answer-injective, status-injective}
+use Rattle.dshot_spec.specs.Packet.{Kind, plain, inverted}
 use Rattle.dshot_spec.specs.Packet as Packet
 use Rattle.dshot_spec.specs.Timing.{Timing}
 use Rattle.dshot_spec.specs.Command.{CommandRun, Command, send, Next}
-use Rattle.dshot.specs.Answers.{frame_error_number, packet_answer, kind_of, words, lane_of, timing_error_number, timing_of, timing_answer, encoded_number, first_answer, run_of, command_of, next_of, read_error_number, frame_answer}
+use Rattle.dshot.specs.Answers.{frame_error_number, packet_answer, kind_of, words, lane_of, timing_error_number, timing_of, timing_answer, encode_error_number, encoded_number, first_answer, run_of, command_of, next_of, read_error_number, frame_told, frame_answer}
 use Rattle.dshot.specs.declared.DshotFrameError.{DshotFrameError}
 use Rattle.dshot.specs.declared.DshotFrameError.TheVariants.{ValueOutOfRange}
 use Rattle.dshot.specs.declared.DshotPacket.{DshotPacket}
-use Rattle.dshot.specs.declared.PacketMade.{PacketMade}
-use Rattle.dshot.specs.declared.PacketMade.TheVariants as Made
 use Rattle.dshot.specs.declared.ChecksumKind.{ChecksumKind}
 use Rattle.dshot.specs.declared.ChecksumKind.TheVariants.{Plain, Inverted}
-use Rattle.dshot.specs.declared.TelemetryLane.{TelemetryLane}
-use Rattle.dshot.specs.declared.TelemetryLane.TheVariants as Lane
 use Rattle.dshot.specs.declared.DshotTimingError.{DshotTimingError}
 use Rattle.dshot.specs.declared.DshotTimingError.TheVariants.{ZeroTimerClock, ZeroBitrate, PeriodTooShort, PeriodTooLong}
 use Rattle.dshot.specs.declared.DshotTiming.{DshotTiming}
-use Rattle.dshot.specs.declared.TimingMade.{TimingMade}
-use Rattle.dshot.specs.declared.TimingMade.TheVariants as Timed
-use Rattle.dshot.specs.declared.Encoded.{Encoded}
-use Rattle.dshot.specs.declared.Encoded.TheVariants as Slots
-use Rattle.dshot.specs.declared.Sequenced.{Sequenced}
-use Rattle.dshot.specs.declared.Sequenced.TheVariants as Duties
+use Rattle.dshot.specs.declared.EncodeError.{EncodeError}
+use Rattle.dshot.specs.declared.EncodeError.TheVariants as Encode
 use Rattle.dshot.specs.declared.DshotCommandSequence.{DshotCommandSequence}
-use Rattle.dshot.specs.declared.CommandValue.{CommandValue}
-use Rattle.dshot.specs.declared.CommandValue.TheVariants as Frames
-use Rattle.dshot.specs.declared.NextValue.{NextValue}
 use Rattle.dshot.specs.declared.read.FrameReadError.{FrameReadError}
 use Rattle.dshot.specs.declared.read.FrameReadError.TheVariants as Error
-use Rattle.dshot.specs.declared.read.FrameRead.{FrameRead}
-use Rattle.dshot.specs.declared.read.FrameRead.TheVariants as Read
+use Rattle.dshot.specs.declared.read.Frame.{Frame}
 
 -- ---- packets
 
@@ -54,17 +43,8 @@ packet-back : (p : DshotPacket) → packet_of p.0 ≡ p
 unfolding packet_of
 packet-back p = refl
 
-packet_of_answer : Answer ℕ → PacketMade
-packet_of_answer (given w) = Made.Packet (packet_of w)
-packet_of_answer (refused n) = Made.Refused (frame_error_of n)
-
-made-back : (p : PacketMade) → packet_of_answer (packet_answer p) ≡ p
-unfolding packet_of_answer
-made-back (Made.Packet p) = ap (λ (x : DshotPacket). Made.Packet x) (packet-back p)
-made-back (Made.Refused e) = ap (λ (x : DshotFrameError). Made.Refused x) (frame-error-back e)
-
-pub packet_answer-injective : (p q : PacketMade) → packet_answer p ≡ packet_answer q → p ≡ q
-packet_answer-injective = injective packet_answer packet_of_answer made-back
+pub packet_answer-injective : (p q : Result DshotPacket DshotFrameError) → packet_answer p ≡ packet_answer q → p ≡ q
+packet_answer-injective = answer-injective (λ (p : DshotPacket). p.0) packet_of frame_error_number frame_error_of packet-back frame-error-back
 
 checksum_kind_of : Kind → ChecksumKind
 checksum_kind_of plain = Plain
@@ -85,16 +65,16 @@ words_back (p ∷ ps) = λ j. packet-back p j ∷ words_back ps j
 pub words-injective : (ps qs : List DshotPacket) → words ps ≡ words qs → ps ≡ qs
 words-injective = injective words (map packet_of) words_back
 
-telemetry_lane_of : Packet.TelemetryLane → TelemetryLane
-telemetry_lane_of Packet.none = Lane.None
-telemetry_lane_of (Packet.lane n) = Lane.Lane n
+telemetry_lane_of : Packet.TelemetryLane → Option ℕ
+telemetry_lane_of Packet.none = None
+telemetry_lane_of (Packet.lane n) = Some n
 
-lane-back : (l : TelemetryLane) → telemetry_lane_of (lane_of l) ≡ l
+lane-back : (l : Option ℕ) → telemetry_lane_of (lane_of l) ≡ l
 unfolding telemetry_lane_of
-lane-back Lane.None = refl
-lane-back (Lane.Lane n) = refl
+lane-back None = refl
+lane-back (Some n) = refl
 
-pub lane_of-injective : (l m : TelemetryLane) → lane_of l ≡ lane_of m → l ≡ m
+pub lane_of-injective : (l m : Option ℕ) → lane_of l ≡ lane_of m → l ≡ m
 lane_of-injective = injective lane_of telemetry_lane_of lane-back
 
 -- ---- timing
@@ -122,42 +102,29 @@ timing-back t = refl
 pub timing_of-injective : (t u : DshotTiming) → timing_of t ≡ timing_of u → t ≡ u
 timing_of-injective = injective timing_of dshot_timing_of timing-back
 
-timing_of_answer : Answer Timing → TimingMade
-timing_of_answer (given t) = Timed.Timing (dshot_timing_of t)
-timing_of_answer (refused n) = Timed.Refused (timing_error_of n)
-
-timed-back : (t : TimingMade) → timing_of_answer (timing_answer t) ≡ t
-unfolding timing_of_answer
-timed-back (Timed.Timing t) = ap (λ (x : DshotTiming). Timed.Timing x) (timing-back t)
-timed-back (Timed.Refused e) = ap (λ (x : DshotTimingError). Timed.Refused x) (timing-error-back e)
-
-pub timing_answer-injective : (t u : TimingMade) → timing_answer t ≡ timing_answer u → t ≡ u
-timing_answer-injective = injective timing_answer timing_of_answer timed-back
+pub timing_answer-injective : (t u : Result DshotTiming DshotTimingError) → timing_answer t ≡ timing_answer u → t ≡ u
+timing_answer-injective = answer-injective timing_of dshot_timing_of timing_error_number timing_error_of timing-back timing-error-back
 
 -- ---- duties
 
-encoded_of : ℕ → Encoded
-encoded_of n = pick (eqb n 0) Slots.Written Slots.WrongLength
+encode_error_of : ℕ → EncodeError
+encode_error_of n = Encode.WrongLength
 
-encoded-back : (e : Encoded) → encoded_of (encoded_number e) ≡ e
-unfolding encoded_of
-encoded-back Slots.Written = refl
-encoded-back Slots.WrongLength = refl
+encode-error-back : (e : EncodeError) → encode_error_of (encode_error_number e) ≡ e
+unfolding encode_error_of
+encode-error-back Encode.WrongLength = refl
 
-pub encoded_number-injective : (e f : Encoded) → encoded_number e ≡ encoded_number f → e ≡ f
-encoded_number-injective = injective encoded_number encoded_of encoded-back
+encode-error-positive : (e : EncodeError) → eqb (encode_error_number e) 0 ≡ false
+encode-error-positive Encode.WrongLength = refl
 
-sequenced_of_answer : Answer ℕ → Sequenced
-sequenced_of_answer (given d) = Duties.First d
-sequenced_of_answer (refused n) = Duties.WrongLength
+pub encode_error_number-injective : (e f : EncodeError) → encode_error_number e ≡ encode_error_number f → e ≡ f
+encode_error_number-injective = injective encode_error_number encode_error_of encode-error-back
 
-sequenced-back : (s : Sequenced) → sequenced_of_answer (first_answer s) ≡ s
-unfolding sequenced_of_answer
-sequenced-back (Duties.First d) = refl
-sequenced-back Duties.WrongLength = refl
+pub encoded_number-injective : (e f : Result Unit EncodeError) → encoded_number e ≡ encoded_number f → e ≡ f
+encoded_number-injective = status-injective encode_error_number encode_error_of encode-error-positive encode-error-back
 
-pub first_answer-injective : (s t : Sequenced) → first_answer s ≡ first_answer t → s ≡ t
-first_answer-injective = injective first_answer sequenced_of_answer sequenced-back
+pub first_answer-injective : (s t : Result ℕ EncodeError) → first_answer s ≡ first_answer t → s ≡ t
+first_answer-injective = answer-injective (λ d. d) (λ d. d) encode_error_number encode_error_of (λ d. refl) encode-error-back
 
 -- ---- commands
 
@@ -171,27 +138,21 @@ run-back s = refl
 pub run_of-injective : (s t : DshotCommandSequence) → run_of s ≡ run_of t → s ≡ t
 run_of-injective = injective run_of sequence_of_run run-back
 
-command_value_of : Command → CommandValue
-command_value_of Command.none = Frames.None
-command_value_of (send v) = Frames.Value v
+command_value_of : Command → Option ℕ
+command_value_of Command.none = None
+command_value_of (send v) = Some v
 
-command-back : (v : CommandValue) → command_value_of (command_of v) ≡ v
+command-back : (v : Option ℕ) → command_value_of (command_of v) ≡ v
 unfolding command_value_of
-command-back Frames.None = refl
-command-back (Frames.Value v) = refl
+command-back None = refl
+command-back (Some v) = refl
 
-pub command_of-injective : (v w : CommandValue) → command_of v ≡ command_of w → v ≡ w
+pub command_of-injective : (v w : Option ℕ) → command_of v ≡ command_of w → v ≡ w
 command_of-injective = injective command_of command_value_of command-back
 
-next_value_of : Next → NextValue
-next_value_of n = record { value = command_value_of n.command; sequence = sequence_of_run n.run }
-
-next-back : (n : NextValue) → next_value_of (next_of n) ≡ n
-unfolding next_value_of
-next-back n = λ j. record { value = command-back n.value j; sequence = run-back n.sequence j }
-
-pub next_of-injective : (n m : NextValue) → next_of n ≡ next_of m → n ≡ m
-next_of-injective = injective next_of next_value_of next-back
+pub next_of-injective : (v w : Option ℕ) (s t : DshotCommandSequence) → next_of v s ≡ next_of w t → (v ≡ w) × (s ≡ t)
+next_of-injective v w s t e =
+    (command_of-injective v w (ap (λ (n : Next). n.command) e), run_of-injective s t (ap (λ (n : Next). n.run) e))
 
 -- ---- the readers
 
@@ -207,14 +168,12 @@ read-error-back Error.Checksum = refl
 pub read_error_number-injective : (e f : FrameReadError) → read_error_number e ≡ read_error_number f → e ≡ f
 read_error_number-injective = injective read_error_number read_error_of read-error-back
 
-read_of_answer : Answer Frame → FrameRead
-read_of_answer (given f) = Read.Frame f.value f.telemetry (checksum_kind_of f.kind)
-read_of_answer (refused n) = Read.Refused (read_error_of n)
+frame_of_told : Packet.Frame → Frame
+frame_of_told f = record { value = f.value; telemetry = f.telemetry; checksum = checksum_kind_of f.kind }
 
-read_back : (r : FrameRead) → read_of_answer (frame_answer r) ≡ r
-unfolding read_of_answer
-read_back (Read.Frame value telemetry checksum) = ap (λ (k : ChecksumKind). Read.Frame value telemetry k) (kind-back checksum)
-read_back (Read.Refused e) = ap (λ (x : FrameReadError). Read.Refused x) (read-error-back e)
+frame-back : (f : Frame) → frame_of_told (frame_told f) ≡ f
+unfolding frame_of_told
+frame-back f = ap (λ (k : ChecksumKind). record { value = f.value; telemetry = f.telemetry; checksum = k }) (kind-back f.checksum)
 
-pub frame_answer-injective : (r s : FrameRead) → frame_answer r ≡ frame_answer s → r ≡ s
-frame_answer-injective = injective frame_answer read_of_answer read_back
+pub frame_answer-injective : (r s : Result Frame FrameReadError) → frame_answer r ≡ frame_answer s → r ≡ s
+frame_answer-injective = answer-injective frame_told frame_of_told read_error_number read_error_of frame-back read-error-back

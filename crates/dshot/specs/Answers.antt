@@ -1,39 +1,28 @@
 -- What the code's answers mean in the terms of the definitions. Each case of an enum gets document 01's number and values, and each struct its
 -- fields.
 -- Assumes nothing.
-use Rattle.std.specs.Prelude.{ℕ, List, map}
-use Rattle.dshot_reply_spec.specs.Answer.{Answer, given, refused}
+use Rattle.std.specs.Prelude.{ℕ, List, map, Option, Some, None, Result}
+use Rattle.dshot_reply_spec.specs.Answer.{Answer}
 use Rattle.dshot_reply_spec.specs.Refusals.{zero_timer_clock, zero_bitrate, period_too_short, period_too_long, value_out_of_range, wrong_length, wrong_duty, wrong_packet_checksum}
-use Rattle.dshot_spec.specs.Packet.{Kind, plain, inverted, Frame}
+use Rattle.dshot_reply.specs.Answers.{answer, status}
+use Rattle.dshot_spec.specs.Packet.{Kind, plain, inverted}
 use Rattle.dshot_spec.specs.Packet as Packet
 use Rattle.dshot_spec.specs.Timing.{Timing}
 use Rattle.dshot_spec.specs.Command.{CommandRun, Command, send, Next}
 use Rattle.dshot.specs.declared.DshotFrameError.{DshotFrameError}
 use Rattle.dshot.specs.declared.DshotFrameError.TheVariants.{ValueOutOfRange}
 use Rattle.dshot.specs.declared.DshotPacket.{DshotPacket}
-use Rattle.dshot.specs.declared.PacketMade.{PacketMade}
-use Rattle.dshot.specs.declared.PacketMade.TheVariants as PacketMade·
 use Rattle.dshot.specs.declared.ChecksumKind.{ChecksumKind}
 use Rattle.dshot.specs.declared.ChecksumKind.TheVariants.{Plain, Inverted}
-use Rattle.dshot.specs.declared.TelemetryLane.{TelemetryLane}
-use Rattle.dshot.specs.declared.TelemetryLane.TheVariants as TelemetryLane·
 use Rattle.dshot.specs.declared.DshotTimingError.{DshotTimingError}
 use Rattle.dshot.specs.declared.DshotTimingError.TheVariants.{ZeroTimerClock, ZeroBitrate, PeriodTooShort, PeriodTooLong}
 use Rattle.dshot.specs.declared.DshotTiming.{DshotTiming}
-use Rattle.dshot.specs.declared.TimingMade.{TimingMade}
-use Rattle.dshot.specs.declared.TimingMade.TheVariants as TimingMade·
-use Rattle.dshot.specs.declared.Encoded.{Encoded}
-use Rattle.dshot.specs.declared.Encoded.TheVariants as Encoded·
-use Rattle.dshot.specs.declared.Sequenced.{Sequenced}
-use Rattle.dshot.specs.declared.Sequenced.TheVariants as Sequenced·
+use Rattle.dshot.specs.declared.EncodeError.{EncodeError}
+use Rattle.dshot.specs.declared.EncodeError.TheVariants as EncodeError·
 use Rattle.dshot.specs.declared.DshotCommandSequence.{DshotCommandSequence}
-use Rattle.dshot.specs.declared.CommandValue.{CommandValue}
-use Rattle.dshot.specs.declared.CommandValue.TheVariants as CommandValue·
-use Rattle.dshot.specs.declared.NextValue.{NextValue}
 use Rattle.dshot.specs.declared.read.FrameReadError.{FrameReadError}
 use Rattle.dshot.specs.declared.read.FrameReadError.TheVariants as FrameReadError·
-use Rattle.dshot.specs.declared.read.FrameRead.{FrameRead}
-use Rattle.dshot.specs.declared.read.FrameRead.TheVariants as FrameRead·
+use Rattle.dshot.specs.declared.read.Frame.{Frame}
 
 -- ---- packets
 
@@ -42,9 +31,8 @@ abbrev pub frame_error_number : DshotFrameError → ℕ
 frame_error_number ValueOutOfRange = value_out_of_range
 
 -- what `try_from_value` answers
-abbrev pub packet_answer : PacketMade → Answer ℕ
-packet_answer (PacketMade·.Packet p) = given p.0
-packet_answer (PacketMade·.Refused e) = refused (frame_error_number e)
+abbrev pub packet_answer : Result DshotPacket DshotFrameError → Answer ℕ
+packet_answer = answer (λ (p : DshotPacket). p.0) frame_error_number
 
 -- the kind of a checksum
 abbrev pub kind_of : ChecksumKind → Kind
@@ -55,10 +43,10 @@ kind_of Inverted = inverted
 abbrev pub words : List DshotPacket → List ℕ
 words packets = map (λ (p : DshotPacket). p.0) packets
 
--- the lane that is asked for telemetry, the Rust's `Option<usize>`
-abbrev pub lane_of : TelemetryLane → Packet.TelemetryLane
-lane_of TelemetryLane·.None = Packet.none
-lane_of (TelemetryLane·.Lane n) = Packet.lane n
+-- the lane that is asked for telemetry, if any
+abbrev pub lane_of : Option ℕ → Packet.TelemetryLane
+lane_of None = Packet.none
+lane_of (Some n) = Packet.lane n
 
 -- ---- timing
 
@@ -74,21 +62,22 @@ abbrev pub timing_of : DshotTiming → Timing
 timing_of t = record { arr = t.arr; zero_high = t.zero_high; one_high = t.one_high; reply_sample_arr = t.reply_sample_arr }
 
 -- what `from_clocks` answers
-abbrev pub timing_answer : TimingMade → Answer Timing
-timing_answer (TimingMade·.Timing t) = given (timing_of t)
-timing_answer (TimingMade·.Refused e) = refused (timing_error_number e)
+abbrev pub timing_answer : Result DshotTiming DshotTimingError → Answer Timing
+timing_answer = answer timing_of timing_error_number
 
 -- ---- duties
 
+-- the number of an `EncodeError`
+abbrev pub encode_error_number : EncodeError → ℕ
+encode_error_number EncodeError·.WrongLength = wrong_length
+
 -- the number of a refusal; 0 if the buffer was filled
-abbrev pub encoded_number : Encoded → ℕ
-encoded_number Encoded·.Written = 0
-encoded_number Encoded·.WrongLength = wrong_length
+abbrev pub encoded_number : Result Unit EncodeError → ℕ
+encoded_number = status encode_error_number
 
 -- the first duty of a sequence
-abbrev pub first_answer : Sequenced → Answer ℕ
-first_answer (Sequenced·.First d) = given d
-first_answer Sequenced·.WrongLength = refused wrong_length
+abbrev pub first_answer : Result ℕ EncodeError → Answer ℕ
+first_answer = answer (λ d. d) encode_error_number
 
 -- ---- commands
 
@@ -96,14 +85,14 @@ first_answer Sequenced·.WrongLength = refused wrong_length
 abbrev pub run_of : DshotCommandSequence → CommandRun
 run_of s = record { commands = s.commands; index = s.index; repeats_left = s.repeats_left }
 
--- the command of a frame, the Rust's `Option<u16>`
-abbrev pub command_of : CommandValue → Command
-command_of CommandValue·.None = Command.none
-command_of (CommandValue·.Value v) = send v
+-- the command of a frame, if there is one
+abbrev pub command_of : Option ℕ → Command
+command_of None = Command.none
+command_of (Some v) = send v
 
 -- what `next_value` answers, and the run that it leaves
-abbrev pub next_of : NextValue → Next
-next_of n = record { command = command_of n.value; run = run_of n.sequence }
+abbrev pub next_of : Option ℕ → DshotCommandSequence → Next
+next_of value run = record { command = command_of value; run = run_of run }
 
 -- ---- the readers
 
@@ -113,7 +102,10 @@ read_error_number FrameReadError·.WrongLength = wrong_length
 read_error_number FrameReadError·.WrongDuty = wrong_duty
 read_error_number FrameReadError·.Checksum = wrong_packet_checksum
 
+-- what a packet or a sequence says
+abbrev pub frame_told : Frame → Packet.Frame
+frame_told f = record { value = f.value; telemetry = f.telemetry; kind = kind_of f.checksum }
+
 -- what a reader answers
-abbrev pub frame_answer : FrameRead → Answer Frame
-frame_answer (FrameRead·.Frame value telemetry checksum) = given (record { value = value; telemetry = telemetry; kind = kind_of checksum })
-frame_answer (FrameRead·.Refused e) = refused (read_error_number e)
+abbrev pub frame_answer : Result Frame FrameReadError → Answer Packet.Frame
+frame_answer = answer frame_told read_error_number

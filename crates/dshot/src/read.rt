@@ -1,16 +1,17 @@
 // Added: the readers of packets and of sequences. They are not in the source.
 
-ghost use Rattle.std.specs.Prelude.{◌≡◌, ◌<◌, ◌≤◌, ◌∷◌, length, slice_index};
+ghost use Rattle.std.specs.Prelude.{◌≡◌, ◌∷◌, length};
 ghost use Rattle.dshot_spec.specs.Packet.{read_packet};
 ghost use Rattle.dshot_spec.specs.Sequence.{duty_bit, word_from, read_sequence};
+ghost use Rattle.dshot_reply.specs.Refusals.{refusal_number};
 ghost use Rattle.dshot.specs.Answers.{read_error_number, frame_answer, timing_of};
-ghost use Rattle.dshot.specs.Steps.{duty_answer, word_answer};
+ghost use Rattle.dshot.specs.Steps.{duty_answer};
 
-use crate::{COMPARE_DMA_SLOTS, ChecksumKind, DSHOT_BITS, DshotPacket, DshotTiming, checksum_of};
-use dshot_reply::refusals::{WRONG_DUTY, WRONG_LENGTH, WRONG_PACKET_CHECKSUM};
+use crate::{COMPARE_DMA_SLOTS, ChecksumKind, DshotPacket, DshotTiming, checksum_of};
+use dshot_reply::refusals::Refusal;
 
 // Why a packet or a sequence cannot be read.
-#[derive(Clone, Copy)]
+#[derive(Clone, Copy, Debug, PartialEq, Eq)]
 pub enum FrameReadError {
     // The sequence does not have sixteen slots.
     WrongLength,
@@ -20,129 +21,94 @@ pub enum FrameReadError {
     Checksum,
 }
 
-impl FrameReadError {
-    // The number of a refusal in document 01.
-    pub fn number(self) -> u32
-        ensures { result ≡ read_error_number self }
-    {
-        match self {
-            FrameReadError::WrongLength => WRONG_LENGTH,
-            FrameReadError::WrongDuty => WRONG_DUTY,
-            FrameReadError::Checksum => WRONG_PACKET_CHECKSUM,
+impl From<FrameReadError> for Refusal {
+    ghost from_gives = { λ e r. refusal_number r ≡ read_error_number e };
+
+    fn from(error: FrameReadError) -> Refusal {
+        match error {
+            FrameReadError::WrongLength => Refusal::WrongLength,
+            FrameReadError::WrongDuty => Refusal::WrongDuty,
+            FrameReadError::Checksum => Refusal::WrongPacketChecksum,
         }
     }
 }
 
-// What a packet or a sequence says, or why it cannot be read.
-#[derive(Clone, Copy)]
-pub enum FrameRead {
-    Frame {
-        value: u16,
-        telemetry: bool,
-        checksum: ChecksumKind,
-    },
-    Refused(FrameReadError),
+// What a packet or a sequence says.
+#[derive(Clone, Copy, Debug, PartialEq, Eq)]
+pub struct Frame {
+    pub value: u16,
+    pub telemetry: bool,
+    pub checksum: ChecksumKind,
 }
 
 // The value, the telemetry bit and the kind of checksum of a packet.
-pub fn read_packet(packet: DshotPacket) -> FrameRead
+#[tactic(auto, unfolding(dshot_spec::specs::Packet::read_packet))]
+pub fn read_packet(packet: DshotPacket) -> Result<Frame, FrameReadError>
     ensures { frame_answer result ≡ read_packet packet.0 }
 {
     let payload = packet.0 / 16;
     let sent = packet.0 % 16;
     let expected = checksum_of(payload);
-    if sent == expected {
-        return FrameRead::Frame {
-            value: payload / 2,
-            telemetry: payload % 2 == 1,
-            checksum: ChecksumKind::Plain,
-        };
-    }
-    if sent == expected ^ 0x0f {
-        return FrameRead::Frame {
-            value: payload / 2,
-            telemetry: payload % 2 == 1,
-            checksum: ChecksumKind::Inverted,
-        };
-    }
-    FrameRead::Refused(FrameReadError::Checksum)
-}
-
-// The bit that a duty stands for.
-#[derive(Clone, Copy)]
-enum DutyBit {
-    Bit(u16),
-    Neither,
+    let checksum = if sent == expected {
+        ChecksumKind::Plain
+    } else if sent == expected ^ 0x0f {
+        ChecksumKind::Inverted
+    } else {
+        return Err(FrameReadError::Checksum);
+    };
+    Ok(Frame {
+        value: payload / 2,
+        telemetry: payload % 2 == 1,
+        checksum,
+    })
 }
 
 impl DshotTiming {
-    fn bit_of(self, duty: u16) -> DutyBit
+    // The bit that a duty stands for. It is `None` if the duty is neither high time.
+    fn bit_of(self, duty: u16) -> Option<u16>
         ensures { duty_answer result ≡ duty_bit (timing_of self) duty }
     {
         if duty == self.one_high {
-            return DutyBit::Bit(1);
+            return Some(1);
         }
         if duty == self.zero_high {
-            return DutyBit::Bit(0);
+            return Some(0);
         }
-        DutyBit::Neither
+        None
     }
 }
 
-// The duty of bit 15 - `index`. The first duty is not in the slots.
-fn duty_at(first: u16, slots: &[u16], index: usize) -> u16
-    requires { index ≤ length slots.now }
-    ensures { result ≡ slice_index (first ∷ slots.now) index }
-{
-    if index == 0 {
-        return first;
-    }
-    slots[index - 1]
-}
-
-// The word of sixteen duties, or that a duty is wrong.
-#[derive(Clone, Copy)]
-enum WordRead {
-    Word(u16),
-    WrongDuty,
-}
-
-fn read_word(first: u16, slots: &[u16], timing: DshotTiming) -> WordRead
+// The word of sixteen duties, or `None` if one of them stands for no bit. The first duty is not in the slots.
+fn read_word(first: u16, slots: &[u16], timing: DshotTiming) -> Option<u16>
     requires { length slots.now ≡ 15 }
-    ensures { word_answer result ≡ word_from (timing_of timing) 0 (first ∷ slots.now) }
+    ensures { duty_answer result ≡ word_from (timing_of timing) 0 (first ∷ slots.now) }
 {
-    let mut word: u16 = 0;
-    let mut index = 0;
-    while index < DSHOT_BITS {
-        match timing.bit_of(duty_at(first, slots, index)) {
-            DutyBit::Bit(bit) => {
-                word = word * 2 + bit;
-            }
-            DutyBit::Neither => {
-                return WordRead::WrongDuty;
-            }
-        }
-        index += 1;
+    let mut word = timing.bit_of(first)?;
+    for duty in slots {
+        word = word * 2 + timing.bit_of(*duty)?;
     }
-    WordRead::Word(word)
+    Some(word)
 }
 
 // The value, the telemetry bit and the kind of checksum of a sequence that `encode_compare_sequence` wrote. The first duty is not in the slots.
-pub fn read_compare_sequence(first: u16, dma_output: &[u16], timing: DshotTiming) -> FrameRead
+#[tactic(auto, unfolding(dshot_spec::specs::Sequence::read_sequence))]
+pub fn read_compare_sequence(
+    first: u16,
+    dma_output: &[u16],
+    timing: DshotTiming,
+) -> Result<Frame, FrameReadError>
     ensures { frame_answer result ≡ read_sequence (timing_of timing) (record { first = first; slots = dma_output.now }) }
 {
     if dma_output.len() != COMPARE_DMA_SLOTS {
-        return FrameRead::Refused(FrameReadError::WrongLength);
+        return Err(FrameReadError::WrongLength);
     }
     if timing.zero_high == timing.one_high {
-        return FrameRead::Refused(FrameReadError::WrongDuty);
+        return Err(FrameReadError::WrongDuty);
     }
     let last = COMPARE_DMA_SLOTS - 1;
     if dma_output[last] != 0 {
-        return FrameRead::Refused(FrameReadError::WrongDuty);
+        return Err(FrameReadError::WrongDuty);
     }
-    match read_word(first, &dma_output[..last], timing) {
-        WordRead::Word(word) => read_packet(DshotPacket(word)),
-        WordRead::WrongDuty => FrameRead::Refused(FrameReadError::WrongDuty),
-    }
+    let word = read_word(first, &dma_output[..last], timing).ok_or(FrameReadError::WrongDuty)?;
+    read_packet(DshotPacket(word))
 }

@@ -1,12 +1,12 @@
 -- `dshot::read::read_word` meets its contract: before each turn of the loop the word so far and the duties left give the whole.
-use Rattle.std.proofs.Common.{◌-◌, ◌∷◌}
-use Rattle.dshot.proofs.ReadLaws.{SoFar}
+use Rattle.std.proofs.Common.{◌≡◌, ◌+◌, ◌^◌, ◌<◌, ◌∷◌, drop}
+use Rattle.dshot_spec.specs.Sequence.{word_from}
 use Rattle.dshot.specs.Answers.{timing_of}
 use Rattle.dshot.proofs.read.read_word.Given as goal
 
-abbrev pub invariant-loop-index : goal.invariant-loop-index
-invariant-loop-index l =
-    SoFar (timing_of l.timing) (l.first ∷ l.slots) l.index l.word
-
-abbrev pub decreases-loop-index : goal.decreases-loop-index
-decreases-loop-index l = 16 - l.index
+abbrev pub invariant-loop-duty : goal.invariant-loop-duty
+invariant-loop-duty l =
+    record {
+      small : l.word < 2 ^ (l.duty-index + 1);
+      rest : word_from (timing_of l.timing) 0 (l.first ∷ l.slots) ≡ word_from (timing_of l.timing) l.word (drop l.duty-index l.slots);
+    }
