@@ -7,7 +7,7 @@
 // The source's requirements: OUTPUT-001, OUTPUT-002, OUTPUT-004, OUTPUT-005, OUTPUT-006, OUTPUT-007, OUTPUT-008, OUTPUT-009. Safety-critical.
 #![tactic(auto)]
 
-ghost use Rattle.std.specs.Prelude.{◌≡◌, ◌+◌, ◌-◌, ◌/◌, ◌^◌, ◌<◌, ◌≤◌, length, slice_index, nat_lt, if◌then◌else◌};
+ghost use Rattle.std.specs.Prelude.{◌≡◌, ◌+◌, ◌/◌, ◌^◌, ◌<◌, ◌≤◌, length, slice_index};
 ghost use Rattle.dshot_reply_spec.specs.Answer.{refusal_number, filled};
 ghost use Rattle.dshot_reply_spec.specs.Nearest.{nearest};
 ghost use Rattle.dshot_spec.specs.Packet.{plain, inverted, packet_word, try_packet, checksum, asks, motor_packets};
@@ -19,6 +19,7 @@ ghost use Rattle.dshot_spec.specs.Command.{spin_direction, next_value};
 ghost use Rattle.dshot_spec.specs.Lease.{lease_expired};
 ghost use Rattle.dshot_reply.specs.Refusals.{refusal_number as number_of};
 ghost use Rattle.dshot.specs.Answers.{frame_error_number, packet_answer, kind_of, words, lane_of, timing_error_number, timing_answer, timing_of, encode_error_number, encoded_number, first_answer, run_of, next_of};
+ghost use Rattle.dshot.specs.Steps.{slot};
 
 use dshot_reply::REPLY_SAMPLES_PER_BIT;
 use dshot_reply::refusals::Refusal;
@@ -120,7 +121,6 @@ pub type MotorValues = [u16; 4];
 
 pub type MotorPackets = [DshotPacket; 4];
 
-#[tactic(auto, unfolding(dshot_spec::specs::Packet::motor_packets, dshot_spec::specs::Tabulate::tabulate))]
 pub fn packets_of_kind(
     kind: ChecksumKind,
     values: MotorValues,
@@ -128,12 +128,12 @@ pub fn packets_of_kind(
 ) -> MotorPackets
     ensures { words result ≡ motor_packets 4 (kind_of kind) values (lane_of telemetry_lane) }
 {
-    std::array::from_fn(|index| -> DshotPacket
-        requires { index < 4 }
-        ensures { result.0 ≡ packet_word (kind_of kind) (slice_index values index) (asks (lane_of telemetry_lane) index) }
-    {
-        DshotPacket::of_kind(kind, values[index], telemetry_lane == Some(index))
-    })
+    std::array::from_fn(
+        |index| -> DshotPacket
+            requires { index < 4 }
+            ensures { result.0 ≡ packet_word (kind_of kind) (slice_index values index) (asks (lane_of telemetry_lane) index) }
+        { DshotPacket::of_kind(kind, values[index], telemetry_lane == Some(index)) },
+    )
 }
 
 // Packs one synchronized four-lane frame set and sets the telemetry bit on at most one lane. If the telemetry lane is above 3, no lane has it.
@@ -268,7 +268,7 @@ fn bit_is_set(packet: DshotPacket, bit_number: usize) -> bool
 // Slot `index` of the lowest `bits` bits of a packet: the duty of a bit, the highest first. After the last bit it is 0.
 fn duty_slot(packet: DshotPacket, bits: usize, zero: u16, one: u16, index: usize) -> u16
     requires { bits ≤ 16 }
-    ensures { result ≡ (if nat_lt index bits then (if is_set packet.0 (bits - 1 - index) then one else zero) else 0) }
+    ensures { result ≡ slot packet.0 bits zero one index }
 {
     if bits <= index {
         return 0;
@@ -283,7 +283,7 @@ fn duty_slot(packet: DshotPacket, bits: usize, zero: u16, one: u16, index: usize
 // Fills a buffer with the slots of the lowest `bits` bits of a packet.
 fn write_duties(packet: DshotPacket, bits: usize, zero: u16, one: u16, output: &mut [u16])
     requires { bits ≤ 16 }
-    ensures { output.new ≡ tabulate (length output.old) (λ i. if nat_lt i bits then (if is_set packet.0 (bits - 1 - i) then one else zero) else 0) }
+    ensures { output.new ≡ tabulate (length output.old) (slot packet.0 bits zero one) }
 {
     for (index, slot) in output.iter_mut().enumerate() {
         *slot = duty_slot(packet, bits, zero, one, index);
