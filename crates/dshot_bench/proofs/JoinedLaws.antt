@@ -1,12 +1,12 @@
 -- The laws of parts of one width that are joined, for every count. They give the length, and what a loop that puts the parts in their places keeps.
 -- Assumes nothing.
 use mathlib.Core.Path.{◌≡◌, ◌∙◌, sym, ap}
-use mathlib.Core.List.{List, ◌++◌, append-nil, append_assoc}
+use mathlib.Core.List.{List, ◌++◌, append_assoc}
 use Prim.Native.Nat.{ℕ, zero, suc, ◌+◌, ◌*◌, ◌<◌, ◌≤◌}
 use native.Mathlib.Omega.{arith}
 use native.Mathlib.Nat.{mul-le-mul_left}
 use native.Mathlib.Numerals.{add-one}
-use lib.ListN.{length, take, drop, length-append, length-drop, drop_of_length-le}
+use lib.ListN.{length, take, drop, length-append, length-drop}
 use lib.Seq.{drop-drop, take_at, drop_at}
 use Rattle.dshot_bench.specs.Sequences.{joined}
 
@@ -60,9 +60,3 @@ module _ {w n : ℕ} {f : ℕ → List ℕ} {xs : List ℕ} where
           ap length step
           ∙ length-append (joined (i + 1) f) (drop (w * (i + 1)) xs)
           ∙ omega (arith, length-joined w f wide (i + 1), length-drop (w * (i + 1)) xs, h.old)
-
-  -- after the last is put
-  pub joined-all : {i : ℕ} {out : List ℕ} → Joined w n f xs i out → n ≤ i → out ≡ joined n f
-  joined-all {i} {out} h l =
-      let e : i ≡ n = omega arith in
-      h.is ∙ rw (e, drop_of_length-le xs {i = w * n} (omega arith)) (append-nil (joined n f))

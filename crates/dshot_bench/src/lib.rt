@@ -9,9 +9,11 @@ ghost use Rattle.dshot_spec.specs.Sequence.{sequence_of};
 ghost use Rattle.dshot.specs.Answers.{timing_of};
 ghost use Rattle.dshot_bench.specs.Sequences.{timing_of_counts, built, firsts_of, slots_of};
 
-use dshot::{DshotPacket, DshotTiming, Sequenced, TelemetryLane};
+use dshot::{DshotPacket, DshotTiming};
+use dshot_reply::refusals::Refusal;
 
 // Puts the sequence of a packet into its lane's part of the slots, and its first duty beside it.
+#[tactic(auto, unfolding(dshot_spec::specs::Sequence::encoded_sequence))]
 fn put_sequence(
     packet: DshotPacket,
     timing: DshotTiming,
@@ -25,15 +27,13 @@ fn put_sequence(
 {
     let from = 16 * lane;
     let end = from + 16;
-    match dshot::encode_compare_sequence(packet, timing, &mut slots[from..end]) {
-        Sequenced::First(duty) => {
-            firsts[lane] = duty;
-        }
-        Sequenced::WrongLength => {}
+    if let Ok(first) = dshot::encode_compare_sequence(packet, timing, &mut slots[from..end]) {
+        firsts[lane] = first;
     }
 }
 
 // The sequences of four values with inverted checksums, sixteen slots each, and their first duties.
+#[tactic(auto, unfolding(crate::specs::Sequences::built))]
 #[unsafe(no_mangle)]
 pub extern "C" fn bench_four_sequences(
     values: &[u16],
@@ -49,14 +49,11 @@ pub extern "C" fn bench_four_sequences(
     ensures slots_after { slots.new ≡ filled (slots_of (timing_of_counts arr zero_high one_high reply_sample_arr)) slots.old (built values.now (lane telemetry_lane) slots.old firsts.old) }
     ensures firsts_after { firsts.new ≡ filled (firsts_of (timing_of_counts arr zero_high one_high reply_sample_arr)) firsts.old (built values.now (lane telemetry_lane) slots.old firsts.old) }
 {
-    if values.len() != 4 {
-        return 13;
-    }
-    if slots.len() != 64 {
-        return 13;
-    }
-    if firsts.len() != 4 {
-        return 13;
+    let &[a, b, c, d] = values else {
+        return Refusal::WrongLength.number();
+    };
+    if slots.len() != 64 || firsts.len() != 4 {
+        return Refusal::WrongLength.number();
     }
     let timing = DshotTiming {
         arr,
@@ -64,14 +61,9 @@ pub extern "C" fn bench_four_sequences(
         one_high,
         reply_sample_arr,
     };
-    let packets = dshot::four_motor_bidirectional_packets(
-        [values[0], values[1], values[2], values[3]],
-        TelemetryLane::Lane(telemetry_lane),
-    );
-    let mut index = 0;
-    while index < 4 {
-        put_sequence(packets[index], timing, index, slots, firsts);
-        index += 1;
+    let packets = dshot::four_motor_bidirectional_packets([a, b, c, d], Some(telemetry_lane));
+    for (lane, packet) in packets.iter().enumerate() {
+        put_sequence(*packet, timing, lane, slots, firsts);
     }
     0
 }

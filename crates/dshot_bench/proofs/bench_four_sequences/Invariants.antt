@@ -1,7 +1,5 @@
 -- `dshot_bench::bench_four_sequences` meets its contract: before each turn of the loop the sequences of the lanes so far stand in their parts.
-use mathlib.Core.List.{List}
-use Prim.Native.Nat.{ℕ, ◌-◌}
-use lib.ListN.{get_or}
+use Rattle.std.proofs.Common.{ℕ, List, get_or}
 use Rattle.dshot_spec.proofs.Tabulated.{Filled}
 use Rattle.dshot_spec.specs.Sequence.{sequence_of}
 use Rattle.dshot_spec.specs.Timing.{Timing}
@@ -16,10 +14,7 @@ slots_at t ws i = (sequence_of t (get_or ws i 0)).slots
 abbrev pub first_at : Timing → List ℕ → ℕ → ℕ
 first_at t ws i = (sequence_of t (get_or ws i 0)).first
 
-abbrev pub invariant-loop-index : goal.invariant-loop-index
-invariant-loop-index l =
-    Filled 4 (first_at (timing_of l.timing) (words l.packets)) l.initial.firsts l.index l.firsts
-    × Joined 16 4 (slots_at (timing_of l.timing) (words l.packets)) l.initial.slots l.index l.slots
-
-abbrev pub decreases-loop-index : goal.decreases-loop-index
-decreases-loop-index l = 4 - l.index
+abbrev pub invariant-loop-lane : goal.invariant-loop-lane
+invariant-loop-lane l =
+    Filled 4 (first_at (timing_of l.timing) (words l.packet-items)) l.initial.firsts l.lane l.firsts
+    × Joined 16 4 (slots_at (timing_of l.timing) (words l.packet-items)) l.initial.slots l.lane l.slots
