@@ -49,10 +49,7 @@ pub extern "C" fn bench_four_sequences(
     ensures slots_after { slots.new ≡ filled (slots_of (timing_of_counts arr zero_high one_high reply_sample_arr)) slots.old (built values.now (lane telemetry_lane) slots.old firsts.old) }
     ensures firsts_after { firsts.new ≡ filled (firsts_of (timing_of_counts arr zero_high one_high reply_sample_arr)) firsts.old (built values.now (lane telemetry_lane) slots.old firsts.old) }
 {
-    let &[a, b, c, d] = values else {
-        return Refusal::WrongLength.number();
-    };
-    if slots.len() != 64 || firsts.len() != 4 {
+    if values.len() != 4 || slots.len() != 64 || firsts.len() != 4 {
         return Refusal::WrongLength.number();
     }
     let timing = DshotTiming {
@@ -61,7 +58,10 @@ pub extern "C" fn bench_four_sequences(
         one_high,
         reply_sample_arr,
     };
-    let packets = dshot::four_motor_bidirectional_packets([a, b, c, d], Some(telemetry_lane));
+    let packets = dshot::four_motor_bidirectional_packets(
+        [values[0], values[1], values[2], values[3]],
+        Some(telemetry_lane),
+    );
     for (lane, packet) in packets.iter().enumerate() {
         put_sequence(*packet, timing, lane, slots, firsts);
     }
