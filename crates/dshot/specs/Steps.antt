@@ -12,4 +12,4 @@ duty_answer None = refused wrong_duty
 
 -- slot i of the lowest `bits` bits of the word w, by the duties of a 0 and of a 1
 abbrev pub slot : ℕ → ℕ → ℕ → ℕ → ℕ → ℕ
-slot w bits zero one i = if nat_lt i bits then (if is_set w (bits - 1 - i) then one else zero) else 0
+slot w bits low high i = if nat_lt i bits then (if is_set w (bits - 1 - i) then high else low) else 0
