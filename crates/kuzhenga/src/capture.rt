@@ -10,10 +10,8 @@ ghost use Rattle.capture_file.specs.Listing.{file_line};
 ghost use Rattle.kuzhenga.specs.Slots.{asked};
 ghost use Rattle.kuzhenga.specs.CaptureSlots.{capture_slots, count_slot, line_bytes};
 
-use crate::slots;
-use capture_file::file::{CaptureRead, CaptureWritten};
 use capture_file::line::LINE_ROOM;
-use dshot_reply::refusals::{NOT_A_CAPTURE, WRONG_LENGTH};
+use dshot_reply::refusals::Refusal;
 
 // Reads a file. Its samples fill the first slots. Three more slots take the number of samples, the mask and EDT (0 or 1).
 #[unsafe(no_mangle)]
@@ -26,21 +24,16 @@ pub extern "C" fn kuzhenga_read_capture(file: &[u8], samples: &mut [u16], about:
         ≡ filled capture_slots about.old (asked 3 about.old (read_into file.now samples.old)) }
 {
     if about.len() != 3 {
-        return WRONG_LENGTH;
+        return Refusal::WrongLength.number();
     }
     match capture_file::file::read_capture(file, samples) {
-        CaptureRead::Capture {
-            count,
-            mask,
-            extended_telemetry,
-        } => {
-            about[0] = count as u16;
-            about[1] = mask;
-            about[2] = slots::flag_of(extended_telemetry);
+        Ok(capture) => {
+            about[0] = capture.count as u16;
+            about[1] = capture.mask;
+            about[2] = u16::from(capture.extended_telemetry);
             0
         }
-        CaptureRead::NotACapture => NOT_A_CAPTURE,
-        CaptureRead::WrongLength => WRONG_LENGTH,
+        Err(error) => Refusal::from(error).number(),
     }
 }
 
@@ -67,7 +60,7 @@ pub extern "C" fn kuzhenga_write_capture(
         (written_into (capture (pin_mask % 65536) (not (eqb extended_telemetry 0)) samples.now) file.old)) }
 {
     if file_length.len() != 1 {
-        return WRONG_LENGTH;
+        return Refusal::WrongLength.number();
     }
     match capture_file::file::write_capture(
         samples,
@@ -75,11 +68,11 @@ pub extern "C" fn kuzhenga_write_capture(
         extended_telemetry != 0,
         file,
     ) {
-        CaptureWritten::Length(bytes) => {
+        Ok(bytes) => {
             file_length[0] = bytes as u16;
             0
         }
-        CaptureWritten::WrongLength => WRONG_LENGTH,
+        Err(error) => Refusal::from(error).number(),
     }
 }
 
@@ -100,14 +93,14 @@ pub extern "C" fn kuzhenga_list_capture(
         (asked 32 line.old (asked 1 line_length.old (given (file_line file.now)))) }
 {
     if line.len() != LINE_ROOM {
-        return WRONG_LENGTH;
+        return Refusal::WrongLength.number();
     }
     if line_length.len() != 1 {
-        return WRONG_LENGTH;
+        return Refusal::WrongLength.number();
     }
     let made = capture_file::list::file_line(file);
     let bytes = made.bytes;
     line_length[0] = made.length as u16;
-    slots::put_bytes(line, &bytes);
+    line.copy_from_slice(&bytes);
     0
 }

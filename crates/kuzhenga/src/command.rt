@@ -13,8 +13,8 @@ ghost use Rattle.kuzhenga.specs.Slots.{asked};
 ghost use Rattle.kuzhenga.specs.FrameSlots.{run_slots, run_at, command_slots};
 
 use crate::slots;
-use dshot::{CommandValue, DshotCommandSequence};
-use dshot_reply::refusals::WRONG_LENGTH;
+use dshot::DshotCommandSequence;
+use dshot_reply::refusals::Refusal;
 
 // The DShot value of a throttle. A throttle above 2000 counts as 2000.
 #[unsafe(no_mangle)]
@@ -34,10 +34,10 @@ pub extern "C" fn kuzhenga_throttles_to_dshot(values: &[u16], out: &mut [u16]) -
     ensures out_after { out.new ≡ filled (λ l. l) out.old (asked 4 values.now (asked 4 out.old (given (throttle_values 4 values.now)))) }
 {
     if values.len() != 4 {
-        return WRONG_LENGTH;
+        return Refusal::WrongLength.number();
     }
     if out.len() != 4 {
-        return WRONG_LENGTH;
+        return Refusal::WrongLength.number();
     }
     let made = dshot::throttles_to_dshot(slots::four_values(values));
     slots::put_four(out, made[0], made[1], made[2], made[3]);
@@ -66,7 +66,7 @@ pub extern "C" fn kuzhenga_command_spin_direction(reversed: u32, sequence: &mut 
     ensures sequence_after { sequence.new ≡ filled run_slots sequence.old (asked 4 sequence.old (given (spin_direction (not (eqb reversed 0))))) }
 {
     if sequence.len() != 4 {
-        return WRONG_LENGTH;
+        return Refusal::WrongLength.number();
     }
     put_run(
         DshotCommandSequence::spin_direction(reversed != 0),
@@ -88,16 +88,16 @@ fn run_at(slots: &[u16]) -> DshotCommandSequence
 }
 
 // Puts a command into two slots.
-fn put_command(command: CommandValue, out: &mut [u16])
+fn put_command(command: Option<u16>, out: &mut [u16])
     requires { length out.old ≡ 2 }
     ensures { out.new ≡ command_slots (command_of command) }
 {
     match command {
-        CommandValue::None => {
+        None => {
             out[0] = 0;
             out[1] = 0;
         }
-        CommandValue::Value(sent) => {
+        Some(sent) => {
             out[0] = 1;
             out[1] = sent;
         }
@@ -112,20 +112,19 @@ pub extern "C" fn kuzhenga_command_next_value(sequence: &mut [u16], value: &mut 
     ensures value_after { value.new ≡ filled (λ n. command_slots n.command) value.old (asked 4 sequence.old (asked 2 value.old (given (next_value 10 (run_at sequence.old))))) }
 {
     if sequence.len() != 4 {
-        return WRONG_LENGTH;
+        return Refusal::WrongLength.number();
     }
     if value.len() != 2 {
-        return WRONG_LENGTH;
+        return Refusal::WrongLength.number();
     }
     let index = sequence[2];
     if 1 < index {
-        put_command(CommandValue::None, value);
+        put_command(None, value);
         return 0;
     }
-    let next = run_at(sequence).next_value();
-    let left = next.sequence;
-    let command = next.value;
-    put_run(left, sequence);
+    let mut run = run_at(sequence);
+    let command = run.next_value();
+    put_run(run, sequence);
     put_command(command, value);
     0
 }
@@ -139,9 +138,9 @@ pub extern "C" fn kuzhenga_command_lease_expired(
 ) -> u32
     ensures { result ≡ flag (lease_expired started_ms duration_ms now_ms) }
 {
-    if dshot::command_lease_expired(started_ms, duration_ms, now_ms) {
-        1
-    } else {
-        0
-    }
+    u32::from(dshot::command_lease_expired(
+        started_ms,
+        duration_ms,
+        now_ms,
+    ))
 }

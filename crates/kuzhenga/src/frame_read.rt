@@ -10,9 +10,9 @@ ghost use Rattle.kuzhenga.specs.Slots.{asked};
 ghost use Rattle.kuzhenga.specs.FrameSlots.{timing_at, kind_number, frame_slots, read_wide};
 
 use crate::slots;
-use dshot::read::FrameRead;
+use dshot::read::{Frame, FrameReadError};
 use dshot::{ChecksumKind, DshotPacket, read};
-use dshot_reply::refusals::{WRONG_DUTY, WRONG_LENGTH, WRONG_PACKET_CHECKSUM};
+use dshot_reply::refusals::Refusal;
 
 fn kind_of(checksum: ChecksumKind) -> u16
     ensures { result ≡ kind_number (kind_of checksum) }
@@ -24,23 +24,19 @@ fn kind_of(checksum: ChecksumKind) -> u16
 }
 
 // Puts what was read into three slots.
-fn put_frame(answer: FrameRead, out: &mut [u16]) -> u32
+fn put_frame(answer: Result<Frame, FrameReadError>, out: &mut [u16]) -> u32
     requires { length out.old ≡ 3 }
     ensures value { result ≡ refusal_number (frame_answer answer) }
     ensures out_after { out.new ≡ filled frame_slots out.old (frame_answer answer) }
 {
     match answer {
-        FrameRead::Frame {
-            value,
-            telemetry,
-            checksum,
-        } => {
-            out[0] = value;
-            out[1] = slots::flag_of(telemetry);
-            out[2] = kind_of(checksum);
+        Ok(frame) => {
+            out[0] = frame.value;
+            out[1] = u16::from(frame.telemetry);
+            out[2] = kind_of(frame.checksum);
             0
         }
-        FrameRead::Refused(error) => error.number(),
+        Err(error) => Refusal::from(error).number(),
     }
 }
 
@@ -51,10 +47,10 @@ pub extern "C" fn kuzhenga_read_packet(packet: u32, frame: &mut [u16]) -> u32
     ensures frame_after { frame.new ≡ filled frame_slots frame.old (asked 3 frame.old (read_wide packet)) }
 {
     if frame.len() != 3 {
-        return WRONG_LENGTH;
+        return Refusal::WrongLength.number();
     }
     if packet > 65535 {
-        return WRONG_PACKET_CHECKSUM;
+        return Refusal::WrongPacketChecksum.number();
     }
     put_frame(read::read_packet(DshotPacket(packet as u16)), frame)
 }
@@ -71,16 +67,16 @@ pub extern "C" fn kuzhenga_read_compare_sequence(
     ensures frame_after { frame.new ≡ filled frame_slots frame.old (asked 4 timing.now (asked 3 frame.old (read_sequence (timing_at timing.now) (record { first = first; slots = dma_output.now })))) }
 {
     if timing.len() != 4 {
-        return WRONG_LENGTH;
+        return Refusal::WrongLength.number();
     }
     if frame.len() != 3 {
-        return WRONG_LENGTH;
+        return Refusal::WrongLength.number();
     }
     if dma_output.len() != 16 {
-        return WRONG_LENGTH;
+        return Refusal::WrongLength.number();
     }
     if first > 65535 {
-        return WRONG_DUTY;
+        return Refusal::WrongDuty.number();
     }
     put_frame(
         read::read_compare_sequence(first as u16, dma_output, slots::timing_at(timing)),

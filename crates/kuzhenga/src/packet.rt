@@ -7,8 +7,8 @@ ghost use Rattle.dshot.specs.Answers.{kind_of};
 ghost use Rattle.kuzhenga.specs.Slots.{asked, one};
 
 use crate::slots;
-use dshot::{ChecksumKind, DshotPacket, PacketMade};
-use dshot_reply::refusals::{VALUE_OUT_OF_RANGE, WRONG_LENGTH};
+use dshot::{ChecksumKind, DshotPacket};
+use dshot_reply::refusals::Refusal;
 
 // The plain packet of `value` modulo 2048.
 #[unsafe(no_mangle)]
@@ -39,17 +39,17 @@ pub extern "C" fn kuzhenga_packet_try_from_value(
     ensures packet_after { packet.new ≡ filled one packet.old (asked 1 packet.old (try_packet value (not (eqb telemetry 0)))) }
 {
     if packet.len() != 1 {
-        return WRONG_LENGTH;
+        return Refusal::WrongLength.number();
     }
     if value > 65535 {
-        return VALUE_OUT_OF_RANGE;
+        return Refusal::ValueOutOfRange.number();
     }
     match DshotPacket::try_from_value(value as u16, telemetry != 0) {
-        PacketMade::Packet(made) => {
+        Ok(made) => {
             packet[0] = made.0;
             0
         }
-        PacketMade::Refused(error) => error.number(),
+        Err(error) => Refusal::from(error).number(),
     }
 }
 
@@ -65,10 +65,10 @@ fn put_packets(
     ensures packets_after { packets.new ≡ filled (λ l. l) packets.old (asked 4 values.now (asked 4 packets.old (given (motor_packets 4 (kind_of kind) values.now (lane telemetry_lane))))) }
 {
     if values.len() != 4 {
-        return WRONG_LENGTH;
+        return Refusal::WrongLength.number();
     }
     if packets.len() != 4 {
-        return WRONG_LENGTH;
+        return Refusal::WrongLength.number();
     }
     for index in 0..4 {
         let packet = DshotPacket::of_kind(kind, values[index], telemetry_lane == index);

@@ -12,10 +12,8 @@ ghost use Rattle.dshot_reply_spec.specs.ValuePeriod.{value_period};
 ghost use Rattle.dshot_reply.specs.Answers.{reply_answer};
 ghost use Rattle.kuzhenga.specs.Slots.{asked, one, halves, reading_slots, period_slots};
 
-use dshot_reply::period::ValuePeriod;
-use dshot_reply::refusals::{PERIOD_OUT_OF_RANGE, WRONG_LENGTH, ZERO_PERIOD};
-use dshot_reply::simulate::PeriodValue;
-use dshot_reply::{Decoded, DshotReply, ReplyRead, Transitions, kind, period, simulate};
+use dshot_reply::refusals::Refusal;
+use dshot_reply::{DshotReply, DshotReplyError, kind, period, simulate};
 
 // The reply word of `value` modulo 4096.
 #[unsafe(no_mangle)]
@@ -36,15 +34,15 @@ pub extern "C" fn kuzhenga_reply_transitions(
     ensures word_after { word.new ≡ filled halves word.old (asked 2 word.old (transitions_of 3 samples.now (pin_mask % 65536))) }
 {
     if word.len() != 2 {
-        return WRONG_LENGTH;
+        return Refusal::WrongLength.number();
     }
     match dshot_reply::reply_transitions(samples, (pin_mask % 65536) as u16) {
-        Transitions::Word(transitions) => {
+        Ok(transitions) => {
             word[0] = (transitions % 65536) as u16;
             word[1] = (transitions / 65536) as u16;
             0
         }
-        Transitions::Refused(error) => dshot_reply::error_number(error),
+        Err(error) => Refusal::from(error).number(),
     }
 }
 
@@ -55,32 +53,32 @@ pub extern "C" fn kuzhenga_decode_gcr(transitions: u32, value: &mut [u16]) -> u3
     ensures value_after { value.new ≡ filled one value.old (asked 1 value.old (decode_word transitions)) }
 {
     if value.len() != 1 {
-        return WRONG_LENGTH;
+        return Refusal::WrongLength.number();
     }
     match dshot_reply::decode_gcr(transitions) {
-        Decoded::Value(decoded) => {
+        Ok(decoded) => {
             value[0] = decoded;
             0
         }
-        Decoded::Refused(error) => dshot_reply::error_number(error),
+        Err(bad_word) => Refusal::from(bad_word).number(),
     }
 }
 
 // Puts an answer into three slots: the kind in one, and the number in two.
-fn put_reply(answer: ReplyRead, out: &mut [u16]) -> u32
+fn put_reply(answer: Result<DshotReply, DshotReplyError>, out: &mut [u16]) -> u32
     requires { length out.old ≡ 3 }
     ensures value { result ≡ refusal_number (reply_answer answer) }
     ensures out_after { out.new ≡ filled reading_slots out.old (reply_answer answer) }
 {
     match answer {
-        ReplyRead::Reply(reply) => {
+        Ok(reply) => {
             let n = kind::reading_number(reply);
             out[0] = kind::kind_number(reply);
             out[1] = (n % 65536) as u16;
             out[2] = (n / 65536) as u16;
             0
         }
-        ReplyRead::Refused(error) => dshot_reply::error_number(error),
+        Err(error) => Refusal::from(error).number(),
     }
 }
 
@@ -95,7 +93,7 @@ pub extern "C" fn kuzhenga_reply_from_value(
     ensures out_after { out.new ≡ filled reading_slots out.old (asked 3 out.old (reply_of (value % 4096) (not (eqb extended_telemetry 0)))) }
 {
     if out.len() != 3 {
-        return WRONG_LENGTH;
+        return Refusal::WrongLength.number();
     }
     put_reply(
         DshotReply::from_value((value % 4096) as u16, extended_telemetry != 0),
@@ -115,7 +113,7 @@ pub extern "C" fn kuzhenga_decode_sampled_reply(
     ensures out_after { out.new ≡ filled reading_slots out.old (asked 3 out.old (sampled_reply 3 samples.now (pin_mask % 65536) (not (eqb extended_telemetry 0)))) }
 {
     if out.len() != 3 {
-        return WRONG_LENGTH;
+        return Refusal::WrongLength.number();
     }
     put_reply(
         dshot_reply::decode_sampled_reply(
@@ -134,14 +132,14 @@ pub extern "C" fn kuzhenga_period_value(period_us: u32, value: &mut [u16]) -> u3
     ensures value_after { value.new ≡ filled one value.old (asked 1 value.old (period_value period_us)) }
 {
     if value.len() != 1 {
-        return WRONG_LENGTH;
+        return Refusal::WrongLength.number();
     }
     match simulate::period_value(period_us) {
-        PeriodValue::Value(v) => {
+        Ok(v) => {
             value[0] = v;
             0
         }
-        PeriodValue::OutOfRange => PERIOD_OUT_OF_RANGE,
+        Err(error) => Refusal::from(error).number(),
     }
 }
 
@@ -152,15 +150,15 @@ pub extern "C" fn kuzhenga_value_period(value: u32, period: &mut [u16]) -> u32
     ensures period_after { period.new ≡ filled period_slots period.old (asked 2 period.old (value_period (value % 4096))) }
 {
     if period.len() != 2 {
-        return WRONG_LENGTH;
+        return Refusal::WrongLength.number();
     }
     match period::value_period((value % 4096) as u16) {
-        ValuePeriod::Period { period_us, step_us } => {
-            period[0] = period_us;
-            period[1] = step_us;
+        Ok(told) => {
+            period[0] = told.period_us;
+            period[1] = told.step_us;
             0
         }
-        ValuePeriod::ZeroPeriod => ZERO_PERIOD,
+        Err(error) => Refusal::from(error).number(),
     }
 }
 
@@ -175,11 +173,13 @@ pub extern "C" fn kuzhenga_simulate_reply(
     ensures value { result ≡ refusal_number (simulated 3 samples.old (value % 4096) lead (pin_mask % 65536)) }
     ensures samples_after { samples.new ≡ filled (λ l. l) samples.old (simulated 3 samples.old (value % 4096) lead (pin_mask % 65536)) }
 {
-    let answer = simulate::simulate_reply(
+    match simulate::simulate_reply(
         samples,
         (value % 4096) as u16,
         lead,
         (pin_mask % 65536) as u16,
-    );
-    simulate::simulated_number(answer)
+    ) {
+        Ok(()) => 0,
+        Err(error) => Refusal::from(error).number(),
+    }
 }

@@ -1,18 +1,10 @@
-// Added, for the exported calls. Four slots are read as values or as a timing. Slots and bytes are filled with a flag, four numbers, or bytes.
+// Added, for the exported calls. Four slots are read as values or as a timing, or are filled.
 
 ghost use Rattle.std.specs.Prelude.{◌≡◌, [], ◌∷◌, length};
-ghost use Rattle.dshot_spec.specs.Packet.{flag};
 ghost use Rattle.dshot.specs.Answers.{timing_of};
 ghost use Rattle.kuzhenga.specs.FrameSlots.{timing_at};
 
 use dshot::{DshotTiming, MotorValues};
-
-// A flag as a slot: 1 or 0.
-pub(crate) fn flag_of(set: bool) -> u16
-    ensures { result ≡ flag set }
-{
-    if set { 1 } else { 0 }
-}
 
 // The values of the motors in four slots.
 pub(crate) fn four_values(slots: &[u16]) -> MotorValues
@@ -43,17 +35,5 @@ pub(crate) fn timing_at(slots: &[u16]) -> DshotTiming
         zero_high: slots[1],
         one_high: slots[2],
         reply_sample_arr: slots[3],
-    }
-}
-
-// Fills a buffer with bytes of the same length.
-pub(crate) fn put_bytes(out: &mut [u8], bytes: &[u8])
-    requires { length out.old ≡ length bytes.now }
-    ensures { out.new ≡ bytes.now }
-{
-    let mut i = 0;
-    while i < bytes.len() {
-        out[i] = bytes[i];
-        i += 1;
     }
 }

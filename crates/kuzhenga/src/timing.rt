@@ -10,8 +10,8 @@ ghost use Rattle.kuzhenga.specs.Slots.{asked, one};
 ghost use Rattle.kuzhenga.specs.FrameSlots.{timing_slots, timing_at};
 
 use crate::slots;
-use dshot::{DshotPacket, DshotTiming, Sequenced, TimingMade};
-use dshot_reply::refusals::WRONG_LENGTH;
+use dshot::{DshotPacket, DshotTiming};
+use dshot_reply::refusals::Refusal;
 
 // The timing of a timer clock and a bit rate, in four slots.
 #[unsafe(no_mangle)]
@@ -24,10 +24,10 @@ pub extern "C" fn kuzhenga_timing_from_clocks(
     ensures timing_after { timing.new ≡ filled timing_slots timing.old (asked 4 timing.old (from_clocks 3 timer_hz bitrate_hz)) }
 {
     if timing.len() != 4 {
-        return WRONG_LENGTH;
+        return Refusal::WrongLength.number();
     }
     match DshotTiming::from_clocks(timer_hz, bitrate_hz) {
-        TimingMade::Timing(made) => {
+        Ok(made) => {
             slots::put_four(
                 timing,
                 made.arr,
@@ -37,7 +37,7 @@ pub extern "C" fn kuzhenga_timing_from_clocks(
             );
             0
         }
-        TimingMade::Refused(error) => error.number(),
+        Err(error) => Refusal::from(error).number(),
     }
 }
 
@@ -48,10 +48,10 @@ pub extern "C" fn kuzhenga_duty_for_bit(timing: &[u16], set: u32, duty: &mut [u1
     ensures duty_after { duty.new ≡ filled one duty.old (asked 4 timing.now (asked 1 duty.old (given (duty_for_bit (timing_at timing.now) (not (eqb set 0)))))) }
 {
     if timing.len() != 4 {
-        return WRONG_LENGTH;
+        return Refusal::WrongLength.number();
     }
     if duty.len() != 1 {
-        return WRONG_LENGTH;
+        return Refusal::WrongLength.number();
     }
     duty[0] = slots::timing_at(timing).duty_for_bit(set != 0);
     0
@@ -63,12 +63,14 @@ pub extern "C" fn kuzhenga_encode_packet(packet: u32, max_duty: u32, output: &mu
     ensures value { result ≡ refusal_number (encoded_packet output.old (packet % 65536) (max_duty % 65536)) }
     ensures output_after { output.new ≡ filled (λ l. l) output.old (encoded_packet output.old (packet % 65536) (max_duty % 65536)) }
 {
-    let answer = dshot::encode_packet(
+    match dshot::encode_packet(
         DshotPacket((packet % 65536) as u16),
         (max_duty % 65536) as u16,
         output,
-    );
-    answer.number()
+    ) {
+        Ok(()) => 0,
+        Err(error) => Refusal::from(error).number(),
+    }
 }
 
 // The sequence of a packet: the first duty in one slot, the others in sixteen. Only the packet's low sixteen bits count.
@@ -84,17 +86,17 @@ pub extern "C" fn kuzhenga_encode_compare_sequence(
     ensures dma_output_after { dma_output.new ≡ filled (λ s. s.slots) dma_output.old (asked 4 timing.now (asked 1 first.old (encoded_sequence dma_output.old (packet % 65536) (timing_at timing.now)))) }
 {
     if timing.len() != 4 {
-        return WRONG_LENGTH;
+        return Refusal::WrongLength.number();
     }
     if first.len() != 1 {
-        return WRONG_LENGTH;
+        return Refusal::WrongLength.number();
     }
     let word = DshotPacket((packet % 65536) as u16);
     match dshot::encode_compare_sequence(word, slots::timing_at(timing), dma_output) {
-        Sequenced::First(duty) => {
+        Ok(duty) => {
             first[0] = duty;
             0
         }
-        Sequenced::WrongLength => WRONG_LENGTH,
+        Err(error) => Refusal::from(error).number(),
     }
 }

@@ -13,11 +13,11 @@ use Rattle.kuzhenga.proofs.capture.kuzhenga_list_capture.Goals as goal
 
 pub returns-then-line-ne-LINE_ROOM : goal.returns-then-line-ne-LINE_ROOM
 returns-then-line-ne-LINE_ROOM c =
-    let all = refused-both line_bytes count_slot _ _ (asked-not _ 32 _ c.if-line-ne-LINE_ROOM.true) in record { value = all.0; line_after = all.1.0; line_length_after = all.1.1 }
+    let all = refused-both line_bytes count_slot _ _ (asked-not _ 32 _ c.if-line-ne-LINE_ROOM.true) in record { value = c.number.ensures ∙ all.0; line_after = all.1.0; line_length_after = all.1.1 }
 
 pub returns-then-line_length-ne1 : goal.returns-then-line_length-ne1
 returns-then-line_length-ne1 c =
-    let all = refused-both line_bytes count_slot _ _ (asked-so _ 32 _ c.if-line-ne-LINE_ROOM.false ∙ asked-not _ 1 _ c.if-line_length-ne1.true) in record { value = all.0; line_after = all.1.0; line_length_after = all.1.1 }
+    let all = refused-both line_bytes count_slot _ _ (asked-so _ 32 _ c.if-line-ne-LINE_ROOM.false ∙ asked-not _ 1 _ c.if-line_length-ne1.true) in record { value = c.number-then-line_length-ne1.ensures ∙ all.0; line_after = all.1.0; line_length_after = all.1.1 }
 
 pub overflow_cast-line_length : goal.overflow_cast-line_length
 overflow_cast-line_length c =

@@ -17,11 +17,11 @@ use Rattle.kuzhenga.proofs.capture.kuzhenga_read_capture.Goals as goal
 pub returns-then-about-ne3 : goal.returns-then-about-ne3
 returns-then-about-ne3 c =
     let a = c.args in
-    let all = wrong-slots (slots_of a.samples.now) capture_slots a.samples.now a.about.now 3 (read_into a.file.now a.samples.now) c.if-about-ne3.true in record { value = all.0; samples_after = all.1.0; about_after = all.1.1 }
+    let all = wrong-slots (slots_of a.samples.now) capture_slots a.samples.now a.about.now 3 (read_into a.file.now a.samples.now) c.if-about-ne3.true in record { value = c.number.ensures ∙ all.0; samples_after = all.1.0; about_after = all.1.1 }
 
 pub overflow_cast-about : goal.overflow_cast-about
 overflow_cast-about c =
-    let e = sym (ap read_answer c.in-Capture.is) ∙ c.read_capture.ensures.result_value in
+    let e = sym (ap read_answer c.in-Ok.is) ∙ c.read_capture.ensures.result_value in
     omega (arith, count_fits _ _ _ e)
 
 pub bounds-about-1 : goal.bounds-about-1
@@ -30,14 +30,14 @@ bounds-about-1 c = simp length-set (omega arith)
 pub bounds-about-2 : goal.bounds-about-2
 bounds-about-2 c = simp length-set (omega arith)
 
-pub returns-in-Capture : goal.returns-in-Capture
-returns-in-Capture c =
+pub returns-in-Ok : goal.returns-in-Ok
+returns-in-Ok c =
     let a = c.args in
     let h = c.if-about-ne3.false in
-    let e = sym (ap read_answer c.in-Capture.is) ∙ c.read_capture.ensures.result_value in
+    let e = sym (ap read_answer c.in-Ok.is) ∙ c.read_capture.ensures.result_value in
     let is = capture-of a.file.now a.samples.now _ e in
-    let count = c.in-Capture.count in
-    let mask = c.in-Capture.mask in
+    let count = c.in-Ok.count in
+    let mask = c.in-Ok.mask in
     let all = given-on (slots_of a.samples.now) capture_slots a.samples.now a.about.now 3 (read_into a.file.now a.samples.now)
     h c.read_capture.ensures.samples_after is.1
     (all_set a.about.now (count ∷ mask ∷ c.flag_of.result ∷ []) h

@@ -17,20 +17,20 @@ use Rattle.kuzhenga.proofs.capture.kuzhenga_write_capture.Goals as goal
 pub returns-then-file_length-ne1 : goal.returns-then-file_length-ne1
 returns-then-file_length-ne1 c =
     let a = c.args in
-    let all = wrong-slots (front a.file.now) count_slot a.file.now a.file_length.now 1 _ c.if-file_length-ne1.true in record { value = all.0; file_after = all.1.0; file_length_after = all.1.1 }
+    let all = wrong-slots (front a.file.now) count_slot a.file.now a.file_length.now 1 _ c.if-file_length-ne1.true in record { value = c.number.ensures ∙ all.0; file_after = all.1.0; file_length_after = all.1.1 }
 
 pub overflow_cast-file_length : goal.overflow_cast-file_length
 overflow_cast-file_length c =
     let did = c.write_capture in
-    omega (arith, written-fits _ _ _ (sym (ap written_answer c.in-Length.is) ∙ did.ensures.result_value))
+    omega (arith, written-fits _ _ _ (sym (ap written_answer c.in-Ok.is) ∙ did.ensures.result_value))
 
-pub returns-in-Length : goal.returns-in-Length
-returns-in-Length c =
+pub returns-in-Ok : goal.returns-in-Ok
+returns-in-Ok c =
     let a = c.args in
     let h = c.if-file_length-ne1.false in
-    let is = then-given _ byte_count (sym c.write_capture.ensures.result_value ∙ ap written_answer c.in-Length.is) in
+    let is = then-given _ byte_count (sym c.write_capture.ensures.result_value ∙ ap written_answer c.in-Ok.is) in
     let all = given-on (front a.file.now) count_slot a.file.now a.file_length.now 1 _ h c.write_capture.ensures.file_after is.1
-    (all_set a.file_length.now (c.in-Length.bytes ∷ []) h ∙ ap one (sym (same-given is.2))) in record { value = all.0; file_after = all.1.0; file_length_after = all.1.1 }
+    (all_set a.file_length.now (c.in-Ok.bytes ∷ []) h ∙ ap one (sym (same-given is.2))) in record { value = all.0; file_after = all.1.0; file_length_after = all.1.1 }
 
 pub returns-in-WrongLength : goal.returns-in-WrongLength
 returns-in-WrongLength c =

@@ -11,11 +11,11 @@ use Rattle.kuzhenga.proofs.command.kuzhenga_command_next_value.Goals as goal
 
 pub returns-then-sequence-ne4 : goal.returns-then-sequence-ne4
 returns-then-sequence-ne4 c =
-    let all = refused-both (λ (n : Next). run_slots n.run) (λ (n : Next). command_slots n.command) _ _ (asked-not _ 4 _ c.if-sequence-ne4.true) in record { value = all.0; sequence_after = all.1.0; value_after = all.1.1 }
+    let all = refused-both (λ (n : Next). run_slots n.run) (λ (n : Next). command_slots n.command) _ _ (asked-not _ 4 _ c.if-sequence-ne4.true) in record { value = c.number.ensures ∙ all.0; sequence_after = all.1.0; value_after = all.1.1 }
 
 pub returns-then-value-ne2 : goal.returns-then-value-ne2
 returns-then-value-ne2 c =
-    let all = refused-both (λ (n : Next). run_slots n.run) (λ (n : Next). command_slots n.command) _ _ (asked-so _ 4 _ c.if-sequence-ne4.false ∙ asked-not _ 2 _ c.if-value-ne2.true) in record { value = all.0; sequence_after = all.1.0; value_after = all.1.1 }
+    let all = refused-both (λ (n : Next). run_slots n.run) (λ (n : Next). command_slots n.command) _ _ (asked-so _ 4 _ c.if-sequence-ne4.false ∙ asked-not _ 2 _ c.if-value-ne2.true) in record { value = c.number-then-value-ne2.ensures ∙ all.0; sequence_after = all.1.0; value_after = all.1.1 }
 
 pub returns-then-index-gt1 : goal.returns-then-index-gt1
 unfolding tabulate

@@ -8,7 +8,7 @@ use Rattle.kuzhenga.proofs.command.kuzhenga_command_spin_direction.Goals as goal
 
 pub returns-then-sequence-ne4 : goal.returns-then-sequence-ne4
 returns-then-sequence-ne4 c =
-    let all = wrong-length run_slots _ _ c.if-sequence-ne4.true in record { value = all.0; sequence_after = all.1 }
+    let all = wrong-length run_slots _ _ c.if-sequence-ne4.true in record { value = c.number.ensures ∙ all.0; sequence_after = all.1 }
 
 pub returns : goal.returns
 returns c =

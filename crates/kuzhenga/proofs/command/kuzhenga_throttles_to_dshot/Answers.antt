@@ -13,11 +13,11 @@ use Rattle.kuzhenga.proofs.command.kuzhenga_throttles_to_dshot.Goals as goal
 
 pub returns-then-values-ne4 : goal.returns-then-values-ne4
 returns-then-values-ne4 c =
-    let all = refused-so (λ (l : List ℕ). l) _ (asked-not _ 4 _ c.if-values-ne4.true) in record { value = all.0; out_after = all.1 }
+    let all = refused-so (λ (l : List ℕ). l) _ (asked-not _ 4 _ c.if-values-ne4.true) in record { value = c.number.ensures ∙ all.0; out_after = all.1 }
 
 pub returns-then-out-ne4 : goal.returns-then-out-ne4
 returns-then-out-ne4 c =
-    let all = refused-so (λ (l : List ℕ). l) _ (asked-so _ 4 _ c.if-values-ne4.false ∙ asked-not _ 4 _ c.if-out-ne4.true) in record { value = all.0; out_after = all.1 }
+    let all = refused-so (λ (l : List ℕ). l) _ (asked-so _ 4 _ c.if-values-ne4.false ∙ asked-not _ 4 _ c.if-out-ne4.true) in record { value = c.number-then-out-ne4.ensures ∙ all.0; out_after = all.1 }
 
 pub returns : goal.returns
 unfolding tabulate

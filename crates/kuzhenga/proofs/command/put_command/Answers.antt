@@ -13,7 +13,7 @@ returns-in-None c =
     all_set c.args.out.now (0 ∷ 0 ∷ []) c.requires
     ∙ sym (ap (λ (v : CommandValue). command_slots (command_of v)) c.in-None.is)
 
-pub returns-in-Value : goal.returns-in-Value
-returns-in-Value c =
-    all_set c.args.out.now (1 ∷ c.in-Value.sent ∷ []) c.requires
-    ∙ sym (ap (λ (v : CommandValue). command_slots (command_of v)) c.in-Value.is)
+pub returns-in-Some : goal.returns-in-Some
+returns-in-Some c =
+    all_set c.args.out.now (1 ∷ c.in-Some.sent ∷ []) c.requires
+    ∙ sym (ap (λ (v : CommandValue). command_slots (command_of v)) c.in-Some.is)

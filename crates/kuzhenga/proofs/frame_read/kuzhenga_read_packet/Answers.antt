@@ -12,13 +12,13 @@ use Rattle.kuzhenga.proofs.frame_read.kuzhenga_read_packet.Goals as goal
 
 pub returns-then-frame-ne3 : goal.returns-then-frame-ne3
 returns-then-frame-ne3 c =
-    let all = wrong-length frame_slots _ _ c.if-frame-ne3.true in record { value = all.0; frame_after = all.1 }
+    let all = wrong-length frame_slots _ _ c.if-frame-ne3.true in record { value = c.number.ensures ∙ all.0; frame_after = all.1 }
 
 pub returns-then-packet-gt65535 : goal.returns-then-packet-gt65535
 returns-then-packet-gt65535 c =
     let w = c.args.packet in
     let e : read_wide w ≡ refused wrong_packet_checksum = rw (lt-ltb 65535 w c.if-packet-gt65535.true) in
-    let all = refused-so frame_slots _ (asked-so _ 3 _ c.if-frame-ne3.false ∙ e) in record { value = all.0; frame_after = all.1 }
+    let all = refused-so frame_slots _ (asked-so _ 3 _ c.if-frame-ne3.false ∙ e) in record { value = c.number-then-packet-gt65535.ensures ∙ all.0; frame_after = all.1 }
 
 pub returns : goal.returns
 returns c =

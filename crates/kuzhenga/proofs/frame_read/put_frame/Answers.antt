@@ -8,15 +8,15 @@ use Rattle.dshot_reply_spec.proofs.Answered.{given_so, refused-so}
 use Rattle.kuzhenga.proofs.SlotLaws.{all_set}
 use Rattle.kuzhenga.proofs.frame_read.put_frame.Goals as goal
 
-pub returns-in-Frame : goal.returns-in-Frame
-returns-in-Frame c =
+pub returns-in-Ok : goal.returns-in-Ok
+returns-in-Ok c =
     let a = c.args in
-    let v = c.in-Frame.value in
-    let all = given_so frame_slots a.out.now (ap frame_answer c.in-Frame.is)
+    let v = c.in-Ok.value in
+    let all = given_so frame_slots a.out.now (ap frame_answer c.in-Ok.is)
     (all_set a.out.now (v ∷ c.flag_of.result ∷ c.kind_of.result ∷ []) c.requires
     ∙ (λ j. v ∷ c.flag_of.ensures j ∷ c.kind_of.ensures j ∷ [])) in record { value = all.0; out_after = all.1 }
 
-pub returns-in-Refused : goal.returns-in-Refused
-returns-in-Refused c =
-    let e = refused-so frame_slots c.args.out.now (ap frame_answer c.in-Refused.is) in
+pub returns-in-Err : goal.returns-in-Err
+returns-in-Err c =
+    let e = refused-so frame_slots c.args.out.now (ap frame_answer c.in-Err.is) in
     record { value = c.number.ensures ∙ e.0; out_after = e.1 }

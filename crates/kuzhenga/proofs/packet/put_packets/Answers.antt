@@ -11,11 +11,11 @@ use Rattle.kuzhenga.proofs.packet.put_packets.Goals as goal
 
 pub returns-then-values-ne4 : goal.returns-then-values-ne4
 returns-then-values-ne4 c =
-    let all = refused-so (λ (l : List ℕ). l) _ (asked-not _ 4 _ c.if-values-ne4.true) in record { value = all.0; packets_after = all.1 }
+    let all = refused-so (λ (l : List ℕ). l) _ (asked-not _ 4 _ c.if-values-ne4.true) in record { value = c.number.ensures ∙ all.0; packets_after = all.1 }
 
 pub returns-then-packets-ne4 : goal.returns-then-packets-ne4
 returns-then-packets-ne4 c =
-    let all = refused-so (λ (l : List ℕ). l) _ (asked-so _ 4 _ c.if-values-ne4.false ∙ asked-not _ 4 _ c.if-packets-ne4.true) in record { value = all.0; packets_after = all.1 }
+    let all = refused-so (λ (l : List ℕ). l) _ (asked-so _ 4 _ c.if-values-ne4.false ∙ asked-not _ 4 _ c.if-packets-ne4.true) in record { value = c.number-then-packets-ne4.ensures ∙ all.0; packets_after = all.1 }
 
 pub loop-index-init : goal.loop-index-init
 loop-index-init c = filled_none c.if-packets-ne4.false

@@ -8,17 +8,17 @@ use Rattle.kuzhenga.proofs.reply.kuzhenga_period_value.Goals as goal
 
 pub returns-then-value-ne1 : goal.returns-then-value-ne1
 returns-then-value-ne1 c =
-    let all = wrong-length one _ _ c.if-value-ne1.true in record { value = all.0; value_after = all.1 }
+    let all = wrong-length one _ _ c.if-value-ne1.true in record { value = c.number.ensures ∙ all.0; value_after = all.1 }
 
-pub returns-in-Value : goal.returns-in-Value
-returns-in-Value c =
+pub returns-in-Ok : goal.returns-in-Ok
+returns-in-Ok c =
     let all = done one _ c.if-value-ne1.false
-    (sym (ap period_answer c.in-Value.is) ∙ c.period_value.ensures)
+    (sym (ap period_answer c.in-Ok.is) ∙ c.period_value.ensures)
     refl in record { value = all.0; value_after = all.1 }
 
-pub returns-in-OutOfRange : goal.returns-in-OutOfRange
-returns-in-OutOfRange c =
+pub returns-in-Err : goal.returns-in-Err
+returns-in-Err c =
     let all = passed_on one _ c.if-value-ne1.false
-    (sym (ap period_answer c.in-OutOfRange.is) ∙ c.period_value.ensures)
-    refl
+    (sym (ap period_answer c.in-Err.is) ∙ c.period_value.ensures)
+    (c.number-in-Err.ensures ∙ c.from.ensures)
     refl in record { value = all.0; value_after = all.1 }

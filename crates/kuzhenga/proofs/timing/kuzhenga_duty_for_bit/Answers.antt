@@ -12,11 +12,11 @@ use Rattle.kuzhenga.proofs.timing.kuzhenga_duty_for_bit.Goals as goal
 
 pub returns-then-timing-ne4 : goal.returns-then-timing-ne4
 returns-then-timing-ne4 c =
-    let all = refused-so one _ (asked-not _ 4 _ c.if-timing-ne4.true) in record { value = all.0; duty_after = all.1 }
+    let all = refused-so one _ (asked-not _ 4 _ c.if-timing-ne4.true) in record { value = c.number.ensures ∙ all.0; duty_after = all.1 }
 
 pub returns-then-duty-ne1 : goal.returns-then-duty-ne1
 returns-then-duty-ne1 c =
-    let all = refused-so one _ (asked-so _ 4 _ c.if-timing-ne4.false ∙ asked-not _ 1 _ c.if-duty-ne1.true) in record { value = all.0; duty_after = all.1 }
+    let all = refused-so one _ (asked-so _ 4 _ c.if-timing-ne4.false ∙ asked-not _ 1 _ c.if-duty-ne1.true) in record { value = c.number-then-duty-ne1.ensures ∙ all.0; duty_after = all.1 }
 
 pub returns : goal.returns
 returns c =

@@ -16,23 +16,23 @@ use Rattle.kuzhenga.proofs.timing.kuzhenga_encode_compare_sequence.Goals as goal
 
 pub returns-then-timing-ne4 : goal.returns-then-timing-ne4
 returns-then-timing-ne4 c =
-    let all = refused-both (λ (s : Sequence). one s.first) (λ (s : Sequence). s.slots) _ _ (asked-not _ 4 _ c.if-timing-ne4.true) in record { value = all.0; first_after = all.1.0; dma_output_after = all.1.1 }
+    let all = refused-both (λ (s : Sequence). one s.first) (λ (s : Sequence). s.slots) _ _ (asked-not _ 4 _ c.if-timing-ne4.true) in record { value = c.number.ensures ∙ all.0; first_after = all.1.0; dma_output_after = all.1.1 }
 
 pub returns-then-first-ne1 : goal.returns-then-first-ne1
 returns-then-first-ne1 c =
-    let all = refused-both (λ (s : Sequence). one s.first) (λ (s : Sequence). s.slots) _ _ (asked-so _ 4 _ c.if-timing-ne4.false ∙ asked-not _ 1 _ c.if-first-ne1.true) in record { value = all.0; first_after = all.1.0; dma_output_after = all.1.1 }
+    let all = refused-both (λ (s : Sequence). one s.first) (λ (s : Sequence). s.slots) _ _ (asked-so _ 4 _ c.if-timing-ne4.false ∙ asked-not _ 1 _ c.if-first-ne1.true) in record { value = c.number-then-first-ne1.ensures ∙ all.0; first_after = all.1.0; dma_output_after = all.1.1 }
 
-pub returns-in-First : goal.returns-in-First
-returns-in-First c =
+pub returns-in-Ok : goal.returns-in-Ok
+returns-in-Ok c =
     let a = c.args in
     let e = asked-so a.timing.now 4 _ c.if-timing-ne4.false ∙ asked-so a.first.now 1 _ c.if-first-ne1.false in
     let w = a.packet % 65536 in
     let t = c.timing_at.ensures in
     let called = c.encode_compare_sequence.ensures in
     let is = of-sequence (encoded_sequence a.dma_output.now w (timing_at a.timing.now))
-    (sym (ap first_answer c.in-First.is) ∙ called.result_value ∙ ap (λ (x : Timing). first_duty (encoded_sequence a.dma_output.now w x)) t) in
+    (sym (ap first_answer c.in-Ok.is) ∙ called.result_value ∙ ap (λ (x : Timing). first_duty (encoded_sequence a.dma_output.now w x)) t) in
     let all = given_both (λ (s : Sequence). one s.first) (λ (s : Sequence). s.slots) _ _ (e ∙ is.1)
-    (all_set a.first.now (c.in-First.duty ∷ []) c.if-first-ne1.false ∙ ap one is.2)
+    (all_set a.first.now (c.in-Ok.duty ∷ []) c.if-first-ne1.false ∙ ap one is.2)
     (called.dma_output_after ∙ ap (λ (x : Timing). filled (λ (s : Sequence). s.slots) a.dma_output.now (encoded_sequence a.dma_output.now w x)) t
     ∙ ap (filled (λ (s : Sequence). s.slots) a.dma_output.now) is.1) in record { value = all.0; first_after = all.1.0; dma_output_after = all.1.1 }
 

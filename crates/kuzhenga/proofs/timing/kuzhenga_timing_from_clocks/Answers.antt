@@ -9,12 +9,12 @@ use Rattle.kuzhenga.proofs.timing.kuzhenga_timing_from_clocks.Goals as goal
 
 pub returns-then-timing-ne4 : goal.returns-then-timing-ne4
 returns-then-timing-ne4 c =
-    let all = wrong-length timing_slots _ _ c.if-timing-ne4.true in record { value = all.0; timing_after = all.1 }
+    let all = wrong-length timing_slots _ _ c.if-timing-ne4.true in record { value = c.number.ensures ∙ all.0; timing_after = all.1 }
 
-pub returns-in-Timing : goal.returns-in-Timing
-returns-in-Timing c =
-    let all = given_so timing_slots _ (asked-so _ 4 _ c.if-timing-ne4.false ∙ sym c.from_clocks.ensures ∙ ap timing_answer c.in-Timing.is) c.put_four.ensures in record { value = all.0; timing_after = all.1 }
+pub returns-in-Ok : goal.returns-in-Ok
+returns-in-Ok c =
+    let all = given_so timing_slots _ (asked-so _ 4 _ c.if-timing-ne4.false ∙ sym c.from_clocks.ensures ∙ ap timing_answer c.in-Ok.is) c.put_four.ensures in record { value = all.0; timing_after = all.1 }
 
-pub returns-in-Refused : goal.returns-in-Refused
-returns-in-Refused c =
-    let all = passed_on timing_slots _ c.if-timing-ne4.false (sym (ap timing_answer c.in-Refused.is) ∙ c.from_clocks.ensures) c.number.ensures refl in record { value = all.0; timing_after = all.1 }
+pub returns-in-Err : goal.returns-in-Err
+returns-in-Err c =
+    let all = passed_on timing_slots _ c.if-timing-ne4.false (sym (ap timing_answer c.in-Err.is) ∙ c.from_clocks.ensures) c.number.ensures refl in record { value = all.0; timing_after = all.1 }
