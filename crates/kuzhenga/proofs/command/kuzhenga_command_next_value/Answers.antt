@@ -29,6 +29,6 @@ returns-then-index-gt1 c =
 pub returns : goal.returns
 returns c =
     let a = c.args in
-    let n = c.next_value-next.ensures ∙ c.run_at.ensures in
+    let n = c.next_value-command.ensures ∙ c.run_at-run.ensures in
     let all = given_both (λ (n : Next). run_slots n.run) (λ (n : Next). command_slots n.command) _ _ (asked-so a.sequence.now 4 _ c.if-sequence-ne4.false ∙ asked-so a.value.now 2 _ c.if-value-ne2.false)
     (c.put_run.ensures ∙ ap (λ (n : Next). run_slots n.run) n) (c.put_command-2.ensures ∙ ap (λ (n : Next). command_slots n.command) n) in record { value = all.0; sequence_after = all.1.0; value_after = all.1.1 }

@@ -11,12 +11,12 @@ use Rattle.kuzhenga.proofs.frame_read.put_frame.Goals as goal
 pub returns-in-Ok : goal.returns-in-Ok
 returns-in-Ok c =
     let a = c.args in
-    let v = c.in-Ok.value in
+    let v = c.in-Ok.frame.value in
     let all = given_so frame_slots a.out.now (ap frame_answer c.in-Ok.is)
-    (all_set a.out.now (v ∷ c.flag_of.result ∷ c.kind_of.result ∷ []) c.requires
-    ∙ (λ j. v ∷ c.flag_of.ensures j ∷ c.kind_of.ensures j ∷ [])) in record { value = all.0; out_after = all.1 }
+    (all_set a.out.now (v ∷ c.from.result ∷ c.kind_of.result ∷ []) c.requires
+    ∙ (λ j. v ∷ c.from.ensures j ∷ c.kind_of.ensures j ∷ [])) in record { value = all.0; out_after = all.1 }
 
 pub returns-in-Err : goal.returns-in-Err
 returns-in-Err c =
     let e = refused-so frame_slots c.args.out.now (ap frame_answer c.in-Err.is) in
-    record { value = c.number.ensures ∙ e.0; out_after = e.1 }
+    record { value = c.number.ensures ∙ c.from-in-Err.ensures ∙ e.0; out_after = e.1 }

@@ -26,4 +26,4 @@ returns-in-Ok c =
 
 pub returns-in-Err : goal.returns-in-Err
 returns-in-Err c =
-    let all = passed_on one _ c.if-packet-ne1.false (sym (ap packet_answer c.in-Err.is) ∙ c.try_from_value.ensures) c.number.ensures refl in record { value = all.0; packet_after = all.1 }
+    let all = passed_on one _ c.if-packet-ne1.false (sym (ap packet_answer c.in-Err.is) ∙ c.try_from_value.ensures) (c.number-in-Err.ensures ∙ c.from.ensures) refl in record { value = all.0; packet_after = all.1 }

@@ -36,15 +36,15 @@ returns-in-Ok c =
     (called.dma_output_after ∙ ap (λ (x : Timing). filled (λ (s : Sequence). s.slots) a.dma_output.now (encoded_sequence a.dma_output.now w x)) t
     ∙ ap (filled (λ (s : Sequence). s.slots) a.dma_output.now) is.1) in record { value = all.0; first_after = all.1.0; dma_output_after = all.1.1 }
 
-pub returns-in-WrongLength : goal.returns-in-WrongLength
-returns-in-WrongLength c =
+pub returns-in-Err : goal.returns-in-Err
+returns-in-Err c =
     let a = c.args in
     let e = asked-so a.timing.now 4 _ c.if-timing-ne4.false ∙ asked-so a.first.now 1 _ c.if-first-ne1.false in
     let w = a.packet % 65536 in
     let t = c.timing_at.ensures in
     let called = c.encode_compare_sequence.ensures in
-    let is = of-refused 13 (encoded_sequence a.dma_output.now w (timing_at a.timing.now))
-    (sym (ap first_answer c.in-WrongLength.is) ∙ called.result_value ∙ ap (λ (x : Timing). first_duty (encoded_sequence a.dma_output.now w x)) t) in
+    let is = of-refused _ (encoded_sequence a.dma_output.now w (timing_at a.timing.now))
+    (sym (ap first_answer c.in-Err.is) ∙ called.result_value ∙ ap (λ (x : Timing). first_duty (encoded_sequence a.dma_output.now w x)) t) in
     let same = called.dma_output_after ∙ ap (λ (x : Timing). filled (λ (s : Sequence). s.slots) a.dma_output.now (encoded_sequence a.dma_output.now w x)) t in
     let r = refused-both (λ (s : Sequence). one s.first) (λ (s : Sequence). s.slots) a.first.now a.dma_output.now (e ∙ is) in
-    record { value = r.0; first_after = r.1.0; dma_output_after = same ∙ ap (filled (λ (s : Sequence). s.slots) a.dma_output.now) (sym e) }
+    record { value = c.number-in-Err.ensures ∙ c.from.ensures ∙ r.0; first_after = r.1.0; dma_output_after = same ∙ ap (filled (λ (s : Sequence). s.slots) a.dma_output.now) (sym e) }

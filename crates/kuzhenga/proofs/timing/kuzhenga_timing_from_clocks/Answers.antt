@@ -17,4 +17,4 @@ returns-in-Ok c =
 
 pub returns-in-Err : goal.returns-in-Err
 returns-in-Err c =
-    let all = passed_on timing_slots _ c.if-timing-ne4.false (sym (ap timing_answer c.in-Err.is) ∙ c.from_clocks.ensures) c.number.ensures refl in record { value = all.0; timing_after = all.1 }
+    let all = passed_on timing_slots _ c.if-timing-ne4.false (sym (ap timing_answer c.in-Err.is) ∙ c.from_clocks.ensures) (c.number-in-Err.ensures ∙ c.from.ensures) refl in record { value = all.0; timing_after = all.1 }
