@@ -7,6 +7,7 @@ ghost use Rattle.dshot_reply.specs.Answers.{reading};
 use crate::DshotReply;
 
 // The library reads the channels 1 to 3. Any other channel gets a number that is no kind.
+#[tactic(auto, unfolding(dshot_reply_spec::specs::Kind::debug_kind))]
 fn debug_kind(channel: u8) -> u16
     ensures { result ≡ debug_kind channel }
 {

@@ -287,6 +287,7 @@ pub enum DshotReply {
 }
 
 // 60,000,000 us per minute, over 100, rounded.
+#[tactic(auto, unfolding(dshot_reply_spec::specs::Value::speed_of))]
 fn speed_of(period_us: u32) -> Result<DshotReply, DshotReplyError>
     requires { period_us < 2 ^ 16 }
     ensures { reply_answer result ≡ speed_of period_us }
@@ -310,6 +311,7 @@ fn speed_value(value: u16) -> Result<DshotReply, DshotReplyError>
 }
 
 // A typed reading, by half its type nibble.
+#[tactic(auto, unfolding(dshot_reply_spec::specs::Value::reading_of))]
 fn reading_of(kind: u16, data: u8) -> DshotReply
     requires { (0 < kind) × (kind < 8) }
     ensures { reading result ≡ reading_of kind «data» }
@@ -331,6 +333,7 @@ fn reading_of(kind: u16, data: u8) -> DshotReply
 impl DshotReply {
     // Interprets a checked 12-bit value. With `extended_telemetry` off every value is an eRPM period, except the EDT-enable acknowledgement.
     // With it on, a value whose type nibble is even and nonzero is a typed reading.
+    #[tactic(auto, unfolding(dshot_reply_spec::specs::Value::reply_of))]
     pub fn from_value(value: u16, extended_telemetry: bool) -> Result<Self, DshotReplyError>
         ensures { reply_answer result ≡ reply_of value extended_telemetry }
     {
@@ -351,6 +354,7 @@ impl DshotReply {
 
 // Every layer at once: pin samples to a reply.
 #[inline(always)]
+#[tactic(auto, unfolding(dshot_reply_spec::specs::Reading::sampled_reply, dshot_reply_spec::specs::Reading::word_reply))]
 pub fn decode_sampled_reply(
     samples: &[u16],
     pin_mask: u16,

@@ -76,6 +76,7 @@ fn write_bits(out: &mut [u16], lead: usize, pin_mask: u16, word: u32)
 }
 
 // Whether the simulated ESC can send into such a buffer: it needs room for the lead and two bits more than a reply, and a pin.
+#[tactic(auto, unfolding(crate::specs::Steps::simulated_refusal))]
 fn check(out_length: usize, lead: usize, pin_mask: u16) -> Result<(), SimulateError>
     ensures { simulated_number result ≡ simulated_refusal 3 out_length lead pin_mask }
 {
