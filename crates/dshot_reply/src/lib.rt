@@ -175,6 +175,7 @@ fn push_run(transitions: u32, run: u32) -> u32
 }
 
 // The answer at the end of reading. If too few bits were seen, there is no reply. Otherwise the missing bits are one last run.
+#[tactic(auto, unfolding(crate::specs::Steps::closed))]
 fn close(bits: u32, transitions: u32) -> Result<u32, DshotReplyError>
     requires { (bits ≤ 21) × (transitions < 2 ^ bits) }
     ensures { number_answer result ≡ closed bits transitions }
@@ -300,6 +301,7 @@ fn speed_of(period_us: u32) -> Result<DshotReply, DshotReplyError>
 }
 
 // eee mmmmmmmmm: the period in microseconds is m << e.
+#[tactic(auto, unfolding(dshot_reply_spec::specs::Value::speed_value))]
 fn speed_value(value: u16) -> Result<DshotReply, DshotReplyError>
     requires { value < 4096 }
     ensures { reply_answer result ≡ speed_value value }

@@ -32,6 +32,7 @@ impl From<SimulateError> for Refusal {
 }
 
 // The value of a period of 1 to 65535 us: halved until nine bits hold it, with the number of halvings as its exponent.
+#[tactic(auto, unfolding(dshot_reply_spec::specs::Period::period_value))]
 pub fn period_value(period_us: u32) -> Result<u16, SimulateError>
     ensures { period_answer result ≡ period_value period_us }
 {

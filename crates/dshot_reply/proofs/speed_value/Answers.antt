@@ -2,14 +2,10 @@
 -- Assumes nothing.
 use mathlib.Core.Path.{◌∙◌}
 use lib.Dec.{lit≤}
-use borrow.Author.Tests.{eq-eqb, ne_eqb}
+use borrow.Author.Tests.{ne_eqb}
 use Rattle.dshot_reply_spec.specs.Value.{speed_value}
 use Rattle.dshot_reply.proofs.WordLaws.{period-lt, period-shl}
 use Rattle.dshot_reply.proofs.speed_value.Goals as goal
-
-pub returns-then-value-eq-ERPM_STOPPED : goal.returns-then-value-eq-ERPM_STOPPED
-unfolding speed_value
-returns-then-value-eq-ERPM_STOPPED c = simp (eq-eqb _ 0xfff c.if-value-eq-ERPM_STOPPED.true)
 
 pub speed_of-requires : goal.speed_of-requires
 speed_of-requires c =

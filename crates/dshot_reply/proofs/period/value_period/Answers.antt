@@ -10,10 +10,6 @@ use Rattle.dshot_reply_spec.specs.ValuePeriod.{value_period}
 use Rattle.dshot_reply.proofs.WordLaws.{period-shl, step-shl}
 use Rattle.dshot_reply.proofs.period.value_period.Goals as goal
 
-pub returns-then-v-eq-ERPM_STOPPED : goal.returns-then-v-eq-ERPM_STOPPED
-unfolding value_period
-returns-then-v-eq-ERPM_STOPPED c = simp (eq-eqb _ 0xfff c.if-v-eq-ERPM_STOPPED.true)
-
 pub returns-then-period_us-eq0 : goal.returns-then-period_us-eq0
 unfolding value_period
 returns-then-period_us-eq0 c =

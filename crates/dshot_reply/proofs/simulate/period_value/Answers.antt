@@ -1,25 +1,13 @@
 -- `dshot_reply::simulate::period_value` gives the value of a period. The loop's invariant: scaling what is left, from the exponent on, gives what
 -- scaling the period gives.
 -- Assumes nothing.
-use mathlib.Core.Path.{refl, sym, ap, ◌∙◌}
+use mathlib.Core.Path.{sym, ap, ◌∙◌}
 use Prim.Native.Nat.{◌-◌}
-use borrow.Author.Tests.{eq-eqb, ne_eqb, lt-ltb, le-ltb}
+use borrow.Author.Tests.{ne_eqb, le-ltb}
 use Rattle.dshot_reply_spec.specs.Answer.{given}
 use Rattle.dshot_reply_spec.specs.Period.{period_value}
 use Rattle.dshot_reply_spec.proofs.PeriodLaws.{grows, halved, scaled-more, scaled-done}
-use borrow.Author.Rules.{rules}
 use Rattle.dshot_reply.proofs.simulate.period_value.Goals as goal
-
-pub returns-then-period_us-eq0 : goal.returns-then-period_us-eq0
-unfolding period_value
-returns-then-period_us-eq0 c = simp (eq-eqb _ 0 c.if-period_us-eq0.true)
-
-pub returns-then-period_us-gt65535 : goal.returns-then-period_us-gt65535
-unfolding period_value
-returns-then-period_us-gt65535 c = simp (ne_eqb _ 0 c.if-period_us-eq0.false, lt-ltb 65535 _ c.if-period_us-gt65535.true)
-
-pub loop-left-init : goal.loop-left-init
-loop-left-init c = (search rules, search rules, refl)
 
 pub loop-left-preserved : goal.loop-left-preserved
 loop-left-preserved c =
