@@ -3,11 +3,6 @@
 use Rattle.std.specs.Prelude.{ℕ}
 use Rattle.dshot_reply_spec.specs.Answer.{Answer, given, refused}
 
--- what was given; something else if the answer is a refusal
-abbrev pub given_or : {A : Type 0} → A → Answer A → A
-given_or other (given a) = a
-given_or other (refused n) = other
-
 -- a number of what was given; 0 if the answer is a refusal
 abbrev pub of_given : {A : Type 0} → (A → ℕ) → Answer A → ℕ
 of_given f (given a) = f a

@@ -1,6 +1,6 @@
 -- What the reader of a line finds in its bytes.
 -- Assumes nothing.
-use Rattle.std.specs.Prelude.{ℕ, suc, ◌+◌, ◌-◌, ◌*◌, Option, Some, None, List, [], ◌∷◌, eqb, ltb, length, drop, if◌then◌else◌}
+use Rattle.std.specs.Prelude.{ℕ, suc, Bool, true, false, ◌+◌, ◌-◌, ◌*◌, Option, Some, None, List, [], ◌∷◌, eqb, ltb, length, drop, if◌then◌else◌}
 
 -- how many bytes stand before the first byte b; if there is none, all of them
 abbrev pub before : ℕ → List ℕ → ℕ
@@ -44,3 +44,19 @@ number_of ds from = if ltb (numeral 0 ds) past64 then ended (numeral 0 ds) from 
 -- the number whose digits start at a place of a text
 abbrev pub number_at : List ℕ → ℕ → Option (ℕ × ℕ)
 number_at text from = number_of (digits (drop from text)) from
+
+-- a number that ends at a place
+abbrev pub ends_at : ℕ → Option (ℕ × ℕ) → Option ℕ
+ends_at place None = None
+ends_at place (Some read) = if eqb read.1 place then Some read.0 else None
+
+-- the number that all bytes of a text make
+abbrev pub whole_number : List ℕ → Option ℕ
+whole_number text = ends_at (length text) (number_at text 0)
+
+-- the flag of a number, if it is 0 or 1
+abbrev pub flag_of : ℕ → Option Bool
+flag_of n =
+    if eqb n 0 then Some false else
+    if eqb n 1 then Some true else
+    None

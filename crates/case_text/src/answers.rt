@@ -1,11 +1,12 @@
 // What a call answers, in the numbers that a list stores.
 
-ghost use Rattle.std.specs.Prelude.{◌≡◌, [], ◌∷◌, replicate};
+ghost use Rattle.std.specs.Prelude.{◌≡◌, [], ◌∷◌, replicate, MatchResult};
+ghost use Rattle.dshot_reply.specs.declared.refusals.Refusal.{Refusal};
 ghost use Rattle.dshot_reply_spec.specs.Answer as Told;
 ghost use Rattle.dshot_reply_spec.specs.Kind.{kind_number, reading_number};
-ghost use Rattle.dshot_reply.specs.Answers.{answer, reply_answer};
+ghost use Rattle.dshot_reply.specs.Answers.{reply_answer};
 ghost use Rattle.dshot_reply.specs.Refusals.{refusal_number};
-ghost use Rattle.case_text.specs.Answers.{given_or, of_given};
+ghost use Rattle.case_text.specs.Answers.{of_given};
 
 use dshot_reply::refusals::Refusal;
 use dshot_reply::{DshotReply, DshotReplyError, kind};
@@ -17,19 +18,22 @@ pub struct Answer<const N: usize> {
     pub numbers: [u64; N],
 }
 
-impl<const N: usize> From<Result<[u64; N], Refusal>> for Answer<N> {
-    ghost from_gives = { λ given told. (told.refusal ≡ Told.refusal_number (answer (λ ns. ns) refusal_number given)) × (told.numbers ≡ given_or (replicate N 0) (answer (λ ns. ns) refusal_number given)) };
+impl<const N: usize, E: Into<Refusal>> From<Result<[u64; N], E>> for Answer<N> {
+    ghost from_gives = { λ given told. MatchResult given (λ ns. (told.refusal ≡ 0) × (told.numbers ≡ ns)) (λ e. ((r : Refusal) × E.converts e r × (told.refusal ≡ refusal_number r)) × (told.numbers ≡ replicate N 0)) };
 
-    fn from(given: Result<[u64; N], Refusal>) -> Self {
+    fn from(given: Result<[u64; N], E>) -> Self {
         match given {
             Ok(numbers) => Answer {
                 refusal: 0,
                 numbers,
             },
-            Err(refusal) => Answer {
-                refusal: u64::from(refusal.number()),
-                numbers: [0; N],
-            },
+            Err(error) => {
+                let refusal: Refusal = error.into();
+                Answer {
+                    refusal: u64::from(refusal.number()),
+                    numbers: [0; N],
+                }
+            }
         }
     }
 }
@@ -47,6 +51,6 @@ pub fn of_read(read: Result<DshotReply, DshotReplyError>) -> Answer<2>
                 numbers: [kind, u64::from(kind::reading_number(reply))],
             }
         }
-        Err(error) => Answer::from(Err(Refusal::from(error))),
+        Err(error) => Answer::from(Err(error)),
     }
 }

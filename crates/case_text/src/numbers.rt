@@ -1,7 +1,7 @@
 // Reads the numbers of a line.
 
 ghost use Rattle.std.specs.Prelude.{◌≡◌, ◌+◌, ◌-◌, ◌≤◌, length, drop};
-ghost use Rattle.case_text.specs.Numbers.{before, digit_of, number_at};
+ghost use Rattle.case_text.specs.Numbers.{before, digit_of, number_at, whole_number, flag_of};
 
 // The bytes from a place on. Past the end there are none.
 fn rest(text: &[u8], from: usize) -> &[u8]
@@ -43,4 +43,23 @@ pub fn read_number(line: &[u8], from: usize) -> Option<(u64, usize)>
         end += 1;
     }
     (from != end).then_some((value, end))
+}
+
+// The number that a word is, if it is digits alone.
+pub fn whole_number(word: &[u8]) -> Option<u64>
+    ensures { result ≡ whole_number word.now }
+{
+    let (value, end) = read_number(word, 0)?;
+    (end == word.len()).then_some(value)
+}
+
+// A flag is 0 or 1.
+pub fn flag(number: u64) -> Option<bool>
+    ensures { result ≡ flag_of number }
+{
+    match number {
+        0 => Some(false),
+        1 => Some(true),
+        _ => None,
+    }
 }

@@ -1,145 +1,101 @@
-// Replays records of throttles, of runs of commands and of leases.
+// Replays records of throttles, of runs of commands and of leases, and the record of dshot.rs's constants.
 
-use crate::capture;
-use crate::verdict::{Verdict, judge};
-use case_text::widths::{wide8, wide16};
-use dshot::{CommandValue, DshotCommandSequence};
+use case_text::numbers::flag;
+use dshot::DshotCommandSequence;
 
 // 16 THROTTLE VALUE
-pub(crate) fn throttle(numbers: &[u64]) -> Verdict {
-    if numbers.len() != 3 {
-        return Verdict::Unreadable;
-    }
-    let value = numbers[1];
-    if value > 65535 {
-        return Verdict::Unreadable;
-    }
-    judge(wide16(dshot::throttle_to_dshot(value as u16)) == numbers[2])
+pub(crate) fn throttle(fields: &[u64]) -> Option<bool> {
+    let &[throttle, value] = fields else {
+        return None;
+    };
+    let found = dshot::throttle_to_dshot(u16::try_from(throttle).ok()?);
+    Some(u64::from(found) == value)
 }
 
 // 17 THROTTLE*4 VALUE*4
-pub(crate) fn throttles(numbers: &[u64]) -> Verdict {
-    if numbers.len() != 9 {
-        return Verdict::Unreadable;
-    }
-    let mut values = [0u16; 4];
-    let mut stored = [0u16; 4];
-    let given = capture::listed(&numbers[1..5], &mut values);
-    let right = capture::listed(&numbers[5..9], &mut stored);
-    if !given.is_readable {
-        return Verdict::Unreadable;
-    }
-    if !right.is_readable {
-        return Verdict::Unreadable;
-    }
-    let found = dshot::throttles_to_dshot(values);
-    judge(capture::same(&found, &stored))
+pub(crate) fn throttles(fields: &[u64]) -> Option<bool> {
+    let (throttles, stored) = fields.split_first_chunk::<4>()?;
+    let throttles = throttles.try_map(u16::try_from).ok()?;
+    let stored = stored.as_array::<4>()?.try_map(u16::try_from).ok()?;
+    Some(dshot::throttles_to_dshot(throttles) == stored)
 }
 
-// Whether a step gave what a record has for it: 1 and the command, or 0 and 0.
-fn is_command(value: CommandValue, given: u64, command: u64) -> bool {
-    match value {
-        CommandValue::None => {
-            if given != 0 {
-                return false;
-            }
-            command == 0
-        }
-        CommandValue::Value(found) => {
-            if given != 1 {
-                return false;
-            }
-            wide16(found) == command
-        }
-    }
+// A step of a run gives 1 and its command, or 0 and 0.
+fn of_step(value: Option<u16>) -> [u64; 2] {
+    value.map_or([0, 0], |command| [1, u64::from(command)])
 }
 
 // 18 REVERSED (GIVEN COMMAND)*
-pub(crate) fn run(numbers: &[u64]) -> Verdict {
-    if numbers.len() < 2 {
-        return Verdict::Unreadable;
-    }
-    if numbers[1] > 1 {
-        return Verdict::Unreadable;
-    }
-    let mut sequence = DshotCommandSequence::spin_direction(numbers[1] == 1);
-    let mut at: usize = 2;
-    while at < numbers.len() {
-        if numbers.len() - at == 1 {
-            return Verdict::Unreadable;
+pub(crate) fn run(fields: &[u64]) -> Option<bool> {
+    let [reversed, steps @ ..] = fields else {
+        return None;
+    };
+    let mut run = DshotCommandSequence::spin_direction(flag(*reversed)?);
+    for step in steps.chunks(2) {
+        if of_step(run.next_value()) != *step.as_array::<2>()? {
+            return Some(false);
         }
-        let next = sequence.next_value();
-        let value = next.value;
-        if !is_command(value, numbers[at], numbers[at + 1]) {
-            return Verdict::Differs;
-        }
-        sequence = next.sequence;
-        at += 2;
     }
-    Verdict::Same
-}
-
-// Whether a run has these commands, this index and so many repeats left.
-fn is_run(run: DshotCommandSequence, commands: [u16; 2], index: u64, left: u64) -> bool {
-    let found = run.commands;
-    if !capture::same(&found, &commands) {
-        return false;
-    }
-    if wide8(run.index) != index {
-        return false;
-    }
-    wide8(run.repeats_left) == left
+    Some(true)
 }
 
 // 22 COMMAND*2 INDEX LEFT GIVEN COMMAND COMMAND*2 INDEX LEFT. The last four are the run after the step.
-pub(crate) fn step(numbers: &[u64]) -> Verdict {
-    if numbers.len() != 11 {
-        return Verdict::Unreadable;
-    }
-    let index = numbers[3];
-    let left = numbers[4];
-    if index > 255 {
-        return Verdict::Unreadable;
-    }
-    if left > 255 {
-        return Verdict::Unreadable;
-    }
-    let mut commands = [0u16; 2];
-    let mut stored = [0u16; 2];
-    let given = capture::listed(&numbers[1..3], &mut commands);
-    let right = capture::listed(&numbers[7..9], &mut stored);
-    if !given.is_readable {
-        return Verdict::Unreadable;
-    }
-    if !right.is_readable {
-        return Verdict::Unreadable;
-    }
-    let sequence = DshotCommandSequence {
-        commands,
-        index: index as u8,
-        repeats_left: left as u8,
+pub(crate) fn step(fields: &[u64]) -> Option<bool> {
+    let &[
+        c0,
+        c1,
+        index,
+        left,
+        given,
+        command,
+        c0_after,
+        c1_after,
+        index_after,
+        left_after,
+    ] = fields
+    else {
+        return None;
     };
-    let next = sequence.next_value();
-    let value = next.value;
-    if !is_command(value, numbers[5], numbers[6]) {
-        return Verdict::Differs;
-    }
-    judge(is_run(next.sequence, stored, numbers[9], numbers[10]))
+    let mut run = DshotCommandSequence {
+        commands: [c0, c1].try_map(u16::try_from).ok()?,
+        index: u8::try_from(index).ok()?,
+        repeats_left: u8::try_from(left).ok()?,
+    };
+    let commands = [c0_after, c1_after].try_map(u16::try_from).ok()?;
+    let found = of_step(run.next_value());
+    let counts = [u64::from(run.index), u64::from(run.repeats_left)];
+    Some(
+        found == [given, command]
+            && run.commands == commands
+            && counts == [index_after, left_after],
+    )
 }
 
 // 19 STARTED DURATION NOW EXPIRED
-pub(crate) fn lease(numbers: &[u64]) -> Verdict {
-    if numbers.len() != 5 {
-        return Verdict::Unreadable;
-    }
-    let duration = numbers[2];
-    let expired = numbers[4];
-    if duration > 0xffff_ffff {
-        return Verdict::Unreadable;
-    }
-    if expired > 1 {
-        return Verdict::Unreadable;
-    }
-    let found = dshot::command_lease_expired(numbers[1], duration as u32, numbers[3]);
-    judge(found == (expired == 1))
+pub(crate) fn lease(fields: &[u64]) -> Option<bool> {
+    let &[started, duration, now, expired] = fields else {
+        return None;
+    };
+    let found = dshot::command_lease_expired(started, u32::try_from(duration).ok()?, now);
+    Some(found == flag(expired)?)
+}
+
+// 23 CONSTANT*12, in the source's order
+pub(crate) fn constants(fields: &[u64]) -> Option<bool> {
+    let stored = fields.as_array::<12>()?;
+    let constants = [
+        dshot::DSHOT_BITS as u64,
+        dshot::RESET_SLOTS as u64,
+        dshot::FRAME_SLOTS as u64,
+        dshot::COMPARE_DMA_SLOTS as u64,
+        u64::from(dshot::DSHOT_MAX_VALUE),
+        u64::from(dshot::DSHOT_MIN_THROTTLE),
+        u64::from(dshot::DSHOT_MAX_THROTTLE),
+        u64::from(dshot::DSHOT600_BITRATE_HZ),
+        u64::from(dshot::DSHOT_CMD_SAVE_SETTINGS),
+        u64::from(dshot::DSHOT_CMD_SPIN_DIRECTION_NORMAL),
+        u64::from(dshot::DSHOT_CMD_SPIN_DIRECTION_REVERSED),
+        u64::from(dshot::DSHOT_COMMAND_REPEATS),
+    ];
+    Some(constants == *stored)
 }

@@ -1,112 +1,91 @@
 // Replays records of packets and of timings, and of the reader of packets.
 
-use crate::verdict::{Verdict, judge};
-use crate::{capture, frame_answers};
-use case_text::widths::wide16;
-use dshot::{DshotPacket, DshotTiming, MotorPackets, MotorValues, TelemetryLane, read};
+use case_text::answers::Answer;
+use case_text::numbers::flag;
+use dshot::read::{Frame, FrameReadError};
+use dshot::{DshotPacket, DshotTiming, MotorPackets, MotorValues, read};
 
 // 8 VALUE TELEMETRY REFUSAL PACKET
-pub(crate) fn tried(numbers: &[u64]) -> Verdict {
-    if numbers.len() != 5 {
-        return Verdict::Unreadable;
-    }
-    let value = numbers[1];
-    let telemetry = numbers[2];
-    if value > 65535 {
-        return Verdict::Unreadable;
-    }
-    if telemetry > 1 {
-        return Verdict::Unreadable;
-    }
-    let answer = frame_answers::of_made(DshotPacket::try_from_value(value as u16, telemetry == 1));
-    judge(answer.is(numbers[3], 0, numbers[4]))
-}
-
-// A packet with either checksum.
-fn packet_of(inverted: bool, value: u16, telemetry: bool) -> DshotPacket {
-    if inverted {
-        return DshotPacket::from_value_bidirectional(value, telemetry);
-    }
-    DshotPacket::from_value(value, telemetry)
+pub(crate) fn tried(fields: &[u64]) -> Option<bool> {
+    let &[value, telemetry, refusal, packet] = fields else {
+        return None;
+    };
+    let made = DshotPacket::try_from_value(u16::try_from(value).ok()?, flag(telemetry)?);
+    let stored = Answer {
+        refusal,
+        numbers: [packet],
+    };
+    Some(Answer::from(made.map(|packet| [u64::from(packet.0)])) == stored)
 }
 
 // 9 VALUE TELEMETRY PACKET, and 10 the same with an inverted checksum
-pub(crate) fn packet(numbers: &[u64], inverted: bool) -> Verdict {
-    if numbers.len() != 4 {
-        return Verdict::Unreadable;
-    }
-    let value = numbers[1];
-    let telemetry = numbers[2];
-    if value > 65535 {
-        return Verdict::Unreadable;
-    }
-    if telemetry > 1 {
-        return Verdict::Unreadable;
-    }
-    let packet = packet_of(inverted, value as u16, telemetry == 1);
-    judge(wide16(packet.0) == numbers[3])
+pub(crate) fn packet<F: Fn(u16, bool) -> DshotPacket>(fields: &[u64], make: F) -> Option<bool>
+    requires { F.IsAlwaysCallable make }
+{
+    let &[value, telemetry, packet] = fields else {
+        return None;
+    };
+    let made = make(u16::try_from(value).ok()?, flag(telemetry)?);
+    Some(u64::from(made.0) == packet)
 }
 
-// The lane that is asked for telemetry. If `asked` is 0, there is none.
-fn telemetry_lane(asked: u64, lane: u64) -> TelemetryLane {
-    if asked == 0 {
-        return TelemetryLane::None;
-    }
-    TelemetryLane::Lane(lane as usize)
-}
-
-// The packets of four motors, with either checksum.
-fn packets_of(inverted: bool, values: MotorValues, lane: TelemetryLane) -> MotorPackets {
-    if inverted {
-        return dshot::four_motor_bidirectional_packets(values, lane);
-    }
-    dshot::four_motor_packets(values, lane)
-}
-
-// 11 ASKED LANE VALUE*4 PACKET*4, and 12 the same with inverted checksums
-pub(crate) fn four_packets(numbers: &[u64], inverted: bool) -> Verdict {
-    if numbers.len() != 11 {
-        return Verdict::Unreadable;
-    }
-    if numbers[1] > 1 {
-        return Verdict::Unreadable;
-    }
-    let mut values = [0u16; 4];
-    let given = capture::listed(&numbers[3..7], &mut values);
-    if !given.is_readable {
-        return Verdict::Unreadable;
-    }
-    let lane = telemetry_lane(numbers[1], numbers[2]);
-    let answer = frame_answers::of_packets(packets_of(inverted, values, lane));
-    judge(answer.is(0, numbers[7], numbers[8], numbers[9], numbers[10]))
+// 11 ASKED LANE VALUE*4 PACKET*4, and 12 the same with inverted checksums. If ASKED is 0, no lane is asked for telemetry.
+pub(crate) fn four_packets<F: Fn(MotorValues, Option<usize>) -> MotorPackets>(
+    fields: &[u64],
+    make: F,
+) -> Option<bool>
+    requires { F.IsAlwaysCallable make }
+{
+    let [asked, lane, numbers @ ..] = fields else {
+        return None;
+    };
+    let lane = flag(*asked)?.then_some(*lane as usize);
+    let (values, packets) = numbers.split_first_chunk::<4>()?;
+    let values = values.try_map(u16::try_from).ok()?;
+    let stored = packets.as_array::<4>()?;
+    Some(make(values, lane).map(|packet| u64::from(packet.0)) == *stored)
 }
 
 // 13 CLOCK RATE REFUSAL ARR ZERO ONE SAMPLE
-pub(crate) fn timing(numbers: &[u64]) -> Verdict {
-    if numbers.len() != 8 {
-        return Verdict::Unreadable;
-    }
-    let clock = numbers[1];
-    let rate = numbers[2];
-    if clock > 0xffff_ffff {
-        return Verdict::Unreadable;
-    }
-    if rate > 0xffff_ffff {
-        return Verdict::Unreadable;
-    }
-    let answer = frame_answers::of_timing(DshotTiming::from_clocks(clock as u32, rate as u32));
-    judge(answer.is(numbers[3], numbers[4], numbers[5], numbers[6], numbers[7]))
+pub(crate) fn timing(fields: &[u64]) -> Option<bool> {
+    let &[clock, rate, refusal, arr, zero, one, sample] = fields else {
+        return None;
+    };
+    let made = DshotTiming::from_clocks(u32::try_from(clock).ok()?, u32::try_from(rate).ok()?);
+    let stored = Answer {
+        refusal,
+        numbers: [arr, zero, one, sample],
+    };
+    Some(Answer::from(made.map(of_timing)) == stored)
+}
+
+fn of_timing(timing: DshotTiming) -> [u64; 4] {
+    [
+        u64::from(timing.arr),
+        u64::from(timing.zero_high),
+        u64::from(timing.one_high),
+        u64::from(timing.reply_sample_arr),
+    ]
+}
+
+// The value, the telemetry bit and the kind of checksum.
+pub(crate) fn of_frame(read: Result<Frame, FrameReadError>) -> Answer<3> {
+    Answer::from(read.map(|frame| [
+        u64::from(frame.value),
+        u64::from(frame.telemetry),
+        frame.checksum as u64,
+    ]))
 }
 
 // 20 PACKET REFUSAL VALUE TELEMETRY CHECKSUM
-pub(crate) fn read(numbers: &[u64]) -> Verdict {
-    if numbers.len() != 6 {
-        return Verdict::Unreadable;
-    }
-    let packet = numbers[1];
-    if packet > 65535 {
-        return Verdict::Unreadable;
-    }
-    let answer = frame_answers::of_frame(read::read_packet(DshotPacket(packet as u16)));
-    judge(answer.is(numbers[2], numbers[3], numbers[4], numbers[5], 0))
+pub(crate) fn read(fields: &[u64]) -> Option<bool> {
+    let &[packet, refusal, value, telemetry, checksum] = fields else {
+        return None;
+    };
+    let found = read::read_packet(DshotPacket(u16::try_from(packet).ok()?));
+    let stored = Answer {
+        refusal,
+        numbers: [value, telemetry, checksum],
+    };
+    Some(of_frame(found) == stored)
 }

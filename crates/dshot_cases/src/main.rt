@@ -6,75 +6,48 @@
 // compared. So if a comparison is left out, it shows in what is printed.
 #![tactic(auto)]
 
-mod answers;
-mod capture;
 mod commands;
-mod constants;
-mod frame_answers;
 mod frames;
 mod numbers;
 mod records;
 mod report;
 mod sequences;
-mod verdict;
 
-ghost use Rattle.std.specs.Prelude.{◌≡◌, length};
-
-use crate::report::KINDS;
-use crate::verdict::Verdict;
+use crate::report::Report;
 use case_text::input::read_full;
-use case_text::numbers::find;
-use case_text::widths::one_more;
 use std::io;
 
+// Room for a list, and for one byte more. If a list fills it, it may be cut off.
 const MOST_BYTES: usize = 131072;
 
-// Replays the record of a line, if it has one. If the run ends there, the answer is false.
-fn replay_line(
-    rt: &impl Print,
-    line: &[u8],
-    number: u64,
-    compared: &mut [u64; KINDS],
-    differing: &mut [u64; KINDS],
-) -> io::Result<bool> {
-    let mut held = numbers::buffer();
-    let read = numbers::read_line(line, &mut held);
-    if !read.is_readable {
-        return report::enter(rt, Verdict::Unreadable, 0, number, compared, differing);
-    }
-    let n = read.numbers;
-    let verdict = records::replay(&held[0..n]);
-    report::enter(rt, verdict, held[0], number, compared, differing)
+// Replays the record of a line, if it has one. Answers whether nothing differs, if the record can be read.
+fn replay_line(line: &[u8], report: &mut Report) -> Option<bool> {
+    let numbers = numbers::read_line(line)?;
+    let [kind, fields @ ..] = numbers.as_slice() else {
+        return Some(true);
+    };
+    let is_same = records::replay(*kind, fields)?;
+    report.count(*kind, is_same);
+    Some(is_same)
 }
 
 fn replay_list(rt: &impl Print, text: &[u8]) -> io::Result<()> {
-    let mut compared = [0u64; KINDS];
-    let mut differing = [0u64; KINDS];
-    let mut number: u64 = 0;
-    let mut at: usize = 0;
-    while at < text.len() {
-        let end = find(text, at, b'\n');
-        number = one_more(number);
-        if !replay_line(rt, &text[at..end], number, &mut compared, &mut differing)? {
-            return Ok(());
+    let mut report = Report::new();
+    for (number, line) in (1u64..).zip(text.split_inclusive(|byte| *byte == b'\n')) {
+        match replay_line(line.strip_suffix(b"\n").unwrap_or(line), &mut report) {
+            Some(true) => {}
+            Some(false) => println!(rt; "differs: line {number}")?,
+            None => return println!(rt; "unreadable: line {number}"),
         }
-        at = end + 1;
     }
-    report::counts(rt, &compared, &differing)
-}
-
-// Room for a list, and for one byte more. If a list fills it, it may be cut off.
-fn buffer() -> [u8; MOST_BYTES]
-    ensures { 131072 ≡ length result }
-{
-    [0; MOST_BYTES]
+    report.print(rt)
 }
 
 fn main(rt: HostRuntime) -> io::Result<()> {
-    let mut text = buffer();
+    let mut text = [0; MOST_BYTES];
     let n = read_full(&mut rt.stdin(), &mut text)?;
     if n == text.len() {
-        return report::too_long(&rt);
+        return rt.println("list too long");
     }
     replay_list(&rt, &text[..n])
 }
