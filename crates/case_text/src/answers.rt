@@ -18,8 +18,18 @@ pub struct Answer<const N: usize> {
     pub numbers: [u64; N],
 }
 
+// The number of the refusal that an error is.
+fn number_of<E: Into<Refusal>>(error: E) -> u64
+    ensures { (r : Refusal) × E.converts error r × (result ≡ refusal_number r) }
+{
+    let refusal: Refusal = error.into();
+    u64::from(refusal.number())
+}
+
 impl<const N: usize, E: Into<Refusal>> From<Result<[u64; N], E>> for Answer<N> {
-    ghost from_gives = { λ given told. MatchResult given (λ ns. (told.refusal ≡ 0) × (told.numbers ≡ ns)) (λ e. ((r : Refusal) × E.converts e r × (told.refusal ≡ refusal_number r)) × (told.numbers ≡ replicate N 0)) };
+    ghost from_gives = { λ given told. MatchResult given
+        (λ ns. (told.refusal ≡ 0) × (told.numbers ≡ ns))
+        (λ e. ((r : Refusal) × E.converts e r × (told.refusal ≡ refusal_number r)) × (told.numbers ≡ replicate N 0)) };
 
     fn from(given: Result<[u64; N], E>) -> Self {
         match given {
@@ -27,14 +37,21 @@ impl<const N: usize, E: Into<Refusal>> From<Result<[u64; N], E>> for Answer<N> {
                 refusal: 0,
                 numbers,
             },
-            Err(error) => {
-                let refusal: Refusal = error.into();
-                Answer {
-                    refusal: u64::from(refusal.number()),
-                    numbers: [0; N],
-                }
-            }
+            Err(error) => Answer {
+                refusal: number_of(error),
+                numbers: [0; N],
+            },
         }
+    }
+}
+
+// The number of a refusal, or 0 if the call is done.
+pub fn status<E: Into<Refusal>>(done: Result<(), E>) -> u64
+    ensures { MatchResult done (λ _. result ≡ 0) (λ e. (r : Refusal) × E.converts e r × (result ≡ refusal_number r)) }
+{
+    match done {
+        Ok(()) => 0,
+        Err(error) => number_of(error),
     }
 }
 

@@ -6,7 +6,7 @@
 // are 0. EDT is 0 or 1. A capture is given as runs of equal samples, at most 512 samples in all.
 
 use crate::{commands, frames, sequences};
-use case_text::answers::{Answer, of_read};
+use case_text::answers::{Answer, of_read, status};
 use case_text::captures::unroll;
 use case_text::numbers::flag;
 use dshot::DshotPacket;
@@ -110,10 +110,8 @@ fn simulated(fields: &[u64]) -> Option<bool> {
     let out = buffer.get_mut(..length)?;
     let mut stored = [0; MOST_SAMPLES];
     let n = unroll(runs, *count, &mut stored)?;
-    let found = Answer::from(simulate::simulate_reply(out, value, *lead as usize, mask).map(
-        |()| [],
-    ));
-    Some(found.refusal == *refusal && buffer[..length] == stored[..n])
+    let found = simulate::simulate_reply(out, value, *lead as usize, mask);
+    Some(status(found) == *refusal && buffer[..length] == stored[..n])
 }
 
 pub(crate) fn replay(kind: u64, fields: &[u64]) -> Option<bool> {

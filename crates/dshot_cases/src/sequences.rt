@@ -3,7 +3,7 @@
 use crate::frames::of_frame;
 use crate::records::UNTOUCHED;
 use arrayvec::ArrayVec;
-use case_text::answers::Answer;
+use case_text::answers::{Answer, status};
 use dshot::{DshotPacket, DshotTiming, read};
 
 const MOST_SLOTS: usize = 512;
@@ -36,8 +36,8 @@ pub(crate) fn encoded(fields: &[u64]) -> Option<bool> {
     let stored = slots(numbers)?;
     let mut buffer = [UNTOUCHED; MOST_SLOTS];
     let out = &mut buffer[..stored.len()];
-    let found = Answer::from(dshot::encode_packet(packet, max_duty, out).map(|()| []));
-    Some(found.refusal == *refusal && *out == *stored.as_slice())
+    let found = dshot::encode_packet(packet, max_duty, out);
+    Some(status(found) == *refusal && *out == *stored.as_slice())
 }
 
 // 15 PACKET ARR ZERO ONE SAMPLE REFUSAL FIRST SLOT*. The slots are all of the buffer after the call.
