@@ -34,10 +34,6 @@ pub not-given : {A : Type 0} {a : Answer A} → Read a → is_given a ≡ false 
 not-given (found x) e = let z : ◌≡◌ {A = ℕ} 0 1 = cc in absurd (omega arith)
 not-given lacking e = refl
 
-pub is-given : {A : Type 0} (a : Answer A) → is_given a ≡ true → (x : A) × (a ≡ given x)
-is-given (given x) e = (x, refl)
-is-given (refused n) e = let z : ◌≡◌ {A = ℕ} 0 1 = cc in absurd (omega arith)
-
 pub same-refusal : {A : Type 0} (a : Answer A) (n : ℕ) → Read a → a ≡ refused n → n ≡ not_acapture
 same-refusal a n (found x) e = absurd (not-both refl e)
 same-refusal a n lacking e = cc

@@ -1,26 +1,29 @@
 -- The answers of reading and writing a whole file, and what they leave in the buffers.
 -- Assumes nothing.
 use mathlib.Core.Path.{◌≡◌, refl, sym, ap, ◌∙◌}
-use mathlib.Core.Bool.{true, false}
-use mathlib.Core.List.{List, [], ◌∷◌}
-use Prim.Native.Nat.{ℕ, zero, suc, ◌≤◌, ◌<◌}
+use mathlib.Core.Bool.{Bool, true, false}
+use mathlib.Core.List.{List, [], ◌∷◌, ◌++◌}
+use Prim.Native.Nat.{ℕ, zero, suc, ◌+◌, ◌≤◌, zero-le}
 use native.Mathlib.Omega.{arith}
+use mir.Val.{bool_byte}
 use lib.Dec.{eqb, ltb}
-use lib.ListN.{length}
-use borrow.Author.Tests.{eq-eqb, ne_eqb, lt-ltb, le-ltb, ltb-false}
-use Rattle.dshot_reply_spec.specs.Answer.{Answer, given, refused, and_then, is_given, filled}
-use Rattle.dshot_reply_spec.specs.Refusals.{not_acapture, wrong_length}
+use lib.ListN.{length, take, length-append}
+use lib.Seq.{length-take-le}
+use borrow.Author.Tests.{eq-eqb, le-ltb, ltb-false}
+use Rattle.dshot_reply_spec.specs.Answer.{given, refused, and_then, pick, is_given, filled}
+use Rattle.dshot_reply_spec.specs.Refusals.{not_acapture}
 use Rattle.dshot_reply_spec.proofs.Choice.{not-both}
 use Rattle.dshot_reply_spec.proofs.Given.{first-given, second-given, then-given}
-use Rattle.capture_file.proofs.AnswerLaws.{same-given, not-given, is-given}
+use Rattle.capture_file.proofs.AnswerLaws.{same-given, not-given}
 use Rattle.capture_file.proofs.AnswerLaws.{Read, found, lacking, read-then, read-pick}
 use Rattle.capture_file.proofs.HeadLaws.{head_few}
-use Rattle.capture_file.proofs.ReadBack.{file-most}
+use Rattle.capture_file.proofs.NumberLaws.{one-length, groups-count, groups-short}
+use Rattle.capture_file.proofs.ReadBack.{all_most, file-most}
 use Rattle.capture_file.proofs.ReadLaws.{groups-start}
-use Rattle.capture_file.proofs.WriteLaws.{put_first}
+use Rattle.capture_file.proofs.WriteLaws.{all_groups-append, put-put, put_first}
 use Rattle.capture_file.specs.Groups.{read_number, read_all}
-use Rattle.capture_file.specs.File.{file_samples, file_bytes, Capture, capture, Head, read_head, read_file}
-use Rattle.capture_file.specs.File.{file_of, front, slots_of, read_into, written_into, Told, told, byte_count}
+use Rattle.capture_file.specs.File.{file_samples, file_bytes, Capture, capture, read_head, read_file}
+use Rattle.capture_file.specs.File.{all_groups, file_of, front, read_into, written_into, byte_count}
 use Rattle.capture_file.specs.FileSteps.{put}
 
 -- ---- every refusal of bytes has the same number
@@ -44,21 +47,19 @@ pub file-start : (s : List ℕ) → Read (read_file s)
 unfolding read_file
 file-start s = read-then _ (head-start s) (λ h. read-then _ (all_start h.count h.rest) (λ xs. found _))
 
+pub all_refused : (n : ℕ) (s : List ℕ) → is_given (read_all n s) ≡ false → read_all n s ≡ refused not_acapture
+all_refused n s = not-given (all_start n s)
+
 -- ---- a file that is read
 
 -- as many samples as were asked for
-all-length : (n : ℕ) (s xs : List ℕ) → read_all n s ≡ given xs → length xs ≡ n
-all-length zero [] xs e = ap length (sym (same-given e))
-all-length zero (b ∷ s) xs e = absurd (not-both e refl)
-all-length (suc n) s xs e =
+pub all_length : (n : ℕ) (s xs : List ℕ) → read_all n s ≡ given xs → length xs ≡ n
+all_length zero [] xs e = ap length (sym (same-given e))
+all_length zero (b ∷ s) xs e = absurd (not-both e refl)
+all_length (suc n) s xs e =
     let t = then-given (read_number s) _ e in
     let q = then-given (read_all n t.0.rest) _ t.2 in
-    ap length (sym (same-given q.2)) ∙ ap suc (all-length n t.0.rest q.0 q.1)
-
-file-is : (bytes xs : List ℕ) (head : Head) → read_head bytes ≡ given head → read_all head.count head.rest ≡ given xs
-    → read_file bytes ≡ given (capture head.mask head.edt xs)
-unfolding read_file
-file-is bytes xs head e f = rw (e, f)
+    ap length (sym (same-given q.2)) ∙ ap suc (all_length n t.0.rest q.0 q.1)
 
 -- no more samples than there are slots
 pub file-few : (bytes : List ℕ) (c : Capture) → read_file bytes ≡ given c → length c.samples ≤ file_samples
@@ -66,85 +67,70 @@ unfolding read_file
 file-few bytes c e =
     let t = then-given (read_head bytes) _ e in
     let q = then-given (read_all t.0.count t.0.rest) _ t.2 in
-    let n = ap (λ (x : Capture). length x.samples) (sym (same-given q.2)) ∙ all-length t.0.count t.0.rest q.0 q.1 in
+    let n = ap (λ (x : Capture). length x.samples) (sym (same-given q.2)) ∙ all_length t.0.count t.0.rest q.0 q.1 in
     omega (arith, head_few bytes t.0 t.1)
 
-abbrev tells : ℕ → Head → Answer Told
-tells n head = given (record { count = n; mask = head.mask; edt = head.edt })
+-- what is read into slots is what the file holds
+pub into-given : (bytes slots : List ℕ) (c : Capture) → read_into bytes slots ≡ given c → read_file bytes ≡ given c
+unfolding read_into
+into-given bytes slots c e = (first-given _ (eqb (length slots) file_samples) e).1
 
--- the answer and the slots of a call that reads a file
-abbrev pub ReadSo : List ℕ → List ℕ → Answer Told → List ℕ → Type 0
-ReadSo bytes slots answer after =
-    (answer ≡ and_then (read_into bytes slots) told) × (after ≡ filled (slots_of slots) slots (read_into bytes slots))
+pub into-is : (bytes slots : List ℕ) → length slots ≡ file_samples → read_into bytes slots ≡ read_file bytes
+unfolding read_into
+into-is bytes slots h = rw (eq-eqb (length slots) file_samples h)
 
-module _ (bytes slots : List ℕ) where
-  refused-so : (n : ℕ) → read_into bytes slots ≡ refused n → ReadSo bytes slots (refused n) slots
-  refused-so n e = (sym (ap (λ (a : Answer Capture). and_then a told) e), sym (ap (filled (slots_of slots) slots) e))
+-- a head, and the samples after it
+module _ (bytes slots : List ℕ) (count mask : ℕ) (edt : Bool) (rest : List ℕ) (h : length slots ≡ file_samples)
+    (e : given (record { count = count; mask = mask; edt = edt; rest = rest }) ≡ read_head bytes) where
+  pub head-room : length (take count slots) ≡ count
+  head-room = length-take-le count slots (omega (arith, head_few bytes _ (sym e)))
 
-  pub wrong-slots : (length slots ≡ file_samples → ⊥) → ReadSo bytes slots (refused wrong_length) slots
-  unfolding read_into
-  wrong-slots h = refused-so wrong_length (rw (ne_eqb (length slots) file_samples h))
+  pub read_whole : (xs : List ℕ) → read_all count rest ≡ given xs → read_into bytes slots ≡ given (capture mask edt xs)
+  unfolding read_into read_file
+  read_whole xs f = rw (eq-eqb (length slots) file_samples h, ← e, f)
 
-  -- what is read into slots is what the file holds
-  pub into-given : (c : Capture) → read_into bytes slots ≡ given c → read_file bytes ≡ given c
-  unfolding read_into
-  into-given c e = (first-given _ (eqb (length slots) file_samples) e).1
-
-  module _ (h : length slots ≡ file_samples) where
-    pub into-is : read_into bytes slots ≡ read_file bytes
-    unfolding read_into
-    into-is = rw (eq-eqb (length slots) file_samples h)
-
-    pub no-head : read_head bytes ≡ refused not_acapture → ReadSo bytes slots (refused not_acapture) slots
-    unfolding read_file
-    no-head e = refused-so not_acapture (into-is ∙ rw e)
-
-    module _ (head : Head) (e : read_head bytes ≡ given head) where
-      pub no-samples : is_given (read_all head.count head.rest) ≡ false → ReadSo bytes slots (refused not_acapture) slots
-      unfolding read_file
-      no-samples n = refused-so not_acapture (into-is ∙ rw (e, not-given (all_start head.count head.rest) n))
-
-      pub all-samples : {after : List ℕ} → is_given (read_all head.count head.rest) ≡ true
-          → after ≡ filled (front slots) slots (read_all head.count head.rest)
-          → ReadSo bytes slots (tells head.count head) after
-      all-samples g f =
-          let k = is-given (read_all head.count head.rest) g in
-          let c = capture head.mask head.edt k.0 in
-          let whole : read_into bytes slots ≡ given c = into-is ∙ file-is bytes k.0 head e k.1 in
-          let n : head.count ≡ length k.0 = sym (all-length head.count head.rest k.0 k.1) in
-          let answer = ap (λ (m : ℕ). tells m head) n in
-          let slots-so = f ∙ ap (filled (front slots) slots) k.1 in
-          (answer ∙ sym (ap (λ (a : Answer Capture). and_then a told) whole), slots-so ∙ sym (ap (filled (slots_of slots) slots) whole))
+-- for the goals of `file::read_capture`
+pub ruleset read_cases = (all_refused, all_length, head_few, head-room, read_whole)
 
 -- ---- a file that is written
 
--- the answer and the buffer of a call that writes a file
-abbrev pub WrittenSo : Capture → List ℕ → Answer ℕ → List ℕ → Type 0
-WrittenSo c out answer after =
-    (answer ≡ and_then (written_into c out) byte_count) × (after ≡ filled (front out) out (written_into c out))
+flag-is : (b : Bool) → bool_byte b ≡ pick b 1 0
+flag-is true = refl
+flag-is false = refl
 
-module _ (c : Capture) (out : List ℕ) where
-  written-so : (a : Answer (List ℕ)) → written_into c out ≡ a → WrittenSo c out (and_then a byte_count) (filled (front out) out a)
-  written-so a e = (sym (ap (λ (x : Answer (List ℕ)). and_then x byte_count) e), sym (ap (filled (front out) out) e))
+pub flag-small : (b : Bool) → bool_byte b ≤ 1
+flag-small true = omega arith
+flag-small false = omega arith
 
-  pub too_many : file_samples < length c.samples → WrittenSo c out (refused wrong_length) out
+module _ (mask : ℕ) (edt : Bool) (xs out : List ℕ) (k : ℕ) (h : length xs ≤ file_samples) (room : length out ≡ file_bytes) (flag : k ≡ bool_byte edt) where
+  -- the groups before the samples
+  abbrev pub head_groups : List ℕ
+  head_groups = all_groups (length xs ∷ mask ∷ k ∷ [])
+
+  file-is : file_of (capture mask edt xs) ≡ head_groups ++ all_groups xs
+  unfolding file_of
+  file-is = rw (← flag-is edt, ← flag) (all_groups-append (length xs ∷ mask ∷ k ∷ []) xs)
+
+  written_whole : written_into (capture mask edt xs) out ≡ given (file_of (capture mask edt xs))
   unfolding written_into
-  too_many h = written-so (refused wrong_length) (rw (lt-ltb file_samples (length c.samples) h))
+  written_whole = rw (le-ltb file_samples (length xs) h, eq-eqb (length out) file_bytes room)
 
-  module _ (h : length c.samples ≤ file_samples) where
-    few : ltb file_samples (length c.samples) ≡ false
-    few = le-ltb file_samples (length c.samples) h
+  module _ (at : ℕ) (e : at ≡ 0 + length head_groups) where
+    pub written-count : (n : ℕ) → n ≡ at + length (all_groups xs) → given n ≡ and_then (written_into (capture mask edt xs) out) byte_count
+    written-count n f = rw written_whole (ap given (omega (arith, ap length file-is, length-append head_groups (all_groups xs))))
 
-    pub wrong-buffer : (length out ≡ file_bytes → ⊥) → WrittenSo c out (refused wrong_length) out
-    unfolding written_into
-    wrong-buffer n = written-so (refused wrong_length) (rw (few, ne_eqb (length out) file_bytes n))
+    pub written-file : (now after : List ℕ) → now ≡ put 0 head_groups out → after ≡ put at (all_groups xs) now
+        → after ≡ filled (front out) out (written_into (capture mask edt xs) out)
+    written-file now after f g =
+        rw written_whole (
+        g
+        ∙ rw (e, f) (put-put 0 head_groups (all_groups xs) out zero-le)
+        ∙ ap (λ (ys : List ℕ). put 0 ys out) (sym file-is)
+        ∙ put_first (file_of (capture mask edt xs)) out
+        )
 
-    pub all-written : {n : ℕ} {after : List ℕ} → length out ≡ file_bytes → n ≡ length (file_of c) → after ≡ put 0 (file_of c) out
-        → WrittenSo c out (given n) after
-    unfolding written_into
-    all-written l e f =
-        let so = written-so (given (file_of c)) (rw (few, eq-eqb (length out) file_bytes l)) in
-        (ap given e ∙ so.0, f ∙ put_first (file_of c) out ∙ so.1)
+-- for the goals of `file::write_capture`
+pub ruleset write_cases = (length-append, groups-count, groups-short, one-length, all_most, flag-small, written-count, written-file)
 
 -- a length that is answered is one of a file
 pub written-fits : (c : Capture) (out : List ℕ) (n : ℕ) → given n ≡ and_then (written_into c out) byte_count → n ≤ file_bytes

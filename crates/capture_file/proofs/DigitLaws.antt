@@ -7,24 +7,19 @@ use Prim.Native.Nat.{ℕ, zero, suc, ◌+◌, ◌-◌, ◌/◌, ◌%◌, ◌^◌
 use native.Mathlib.Nat.{pow-suc}
 use native.Mathlib.Numerals.{add-one}
 use native.Mathlib.Omega.{arith}
-use lib.Dec.{eqb, eqb→eq, ltb}
 use lib.ListN.{length, length-append}
 use borrow.Author.Tests.{lt-ltb, le-ltb}
 use Rattle.dshot_reply_spec.proofs.Cases.{lt-or-ge}
-use Rattle.dshot_reply_spec.proofs.Table.{at}
-use Rattle.dshot_reply_spec.specs.Answer.{pick}
 use Rattle.capture_file.specs.Line.{digit, hexadecimal, decimal_within, decimal}
 
--- a digit as the code makes it
-pub digit-made : (d : ℕ) → d < 16 → pick (ltb d 10) (48 + d) (97 + (d - 10)) ≡ digit d
-unfolding digit
-digit-made d h =
-    let made : ℕ → ℕ = λ n. pick (ltb n 10) (48 + n) (97 + (n - 10)) in
-    eqb→eq (made d) (digit d) (at (λ n. eqb (made n) (digit n)) 16 tt d h)
-
-pub hexadecimal-more : (n x : ℕ) → (n ≡ 0 → ⊥) → hexadecimal n x ≡ hexadecimal (n - 1) (x / 16) ++ (digit (x % 16) ∷ [])
+pub hexadecimal-none : (n x : ℕ) → n ≡ 0 → hexadecimal n x ≡ []
 unfolding hexadecimal
-hexadecimal-more zero x h = absurd (h refl)
+hexadecimal-none zero x h = refl
+hexadecimal-none (suc n) x h = absurd (omega arith)
+
+pub hexadecimal-more : (n x : ℕ) → 0 < n → hexadecimal n x ≡ hexadecimal (n - 1) (x / 16) ++ (digit (x % 16) ∷ [])
+unfolding hexadecimal
+hexadecimal-more zero x h = absurd (omega arith)
 hexadecimal-more (suc n) x h = let e : suc n - 1 ≡ n = omega arith in rw e
 
 -- a number below 10

@@ -2,46 +2,17 @@
 -- Assumes nothing.
 use mathlib.Core.Path.{◌≡◌, ap}
 use mathlib.Core.List.{List}
-use Prim.Native.Nat.{ℕ, ◌≤◌, ◌<◌}
+use Prim.Native.Nat.{ℕ, ◌≤◌}
 use lib.Dec.{eqb, ltb}
-use borrow.Author.Tests.{lt-ltb, le-ltb, ltb-false}
-use Rattle.dshot_reply_spec.specs.Answer.{given, refused}
+use borrow.Author.Tests.{ltb-false}
+use Rattle.dshot_reply_spec.specs.Answer.{given}
 use Rattle.dshot_reply_spec.specs.Refusals.{not_acapture}
 use Rattle.dshot_reply_spec.proofs.Given.{second-given, then-given}
 use Rattle.capture_file.proofs.AnswerLaws.{same-given}
 use Rattle.capture_file.specs.Groups.{Headed, read_number}
 use Rattle.capture_file.specs.File.{file_samples, Head, read_head}
 
-pub no-count : (bytes : List ℕ) → read_number bytes ≡ refused not_acapture → read_head bytes ≡ refused not_acapture
-unfolding read_head
-no-count bytes e = rw e
-
-module _ (bytes : List ℕ) (count : Headed) (e : read_number bytes ≡ given count) where
-  pub no-mask : read_number count.rest ≡ refused not_acapture → read_head bytes ≡ refused not_acapture
-  unfolding read_head
-  no-mask f = rw (e, f)
-
-  module _ (mask : Headed) (f : read_number count.rest ≡ given mask) where
-    pub no-edt : read_number mask.rest ≡ refused not_acapture → read_head bytes ≡ refused not_acapture
-    unfolding read_head
-    no-edt g = rw (e, f, g)
-
-    module _ (edt : Headed) (g : read_number mask.rest ≡ given edt) where
-      pub too_many : file_samples < count.number → read_head bytes ≡ refused not_acapture
-      unfolding read_head
-      too_many h = rw (e, f, g, lt-ltb file_samples count.number h)
-
-      pub no_flag : count.number ≤ file_samples → 1 < edt.number → read_head bytes ≡ refused not_acapture
-      unfolding read_head
-      no_flag h k = rw (e, f, g, le-ltb file_samples count.number h, lt-ltb 1 edt.number k)
-
-      pub head-is : count.number ≤ file_samples → edt.number ≤ 1
-          → read_head bytes ≡ given (record { count = count.number; mask = mask.number; edt = eqb edt.number 1; rest = edt.rest })
-      unfolding read_head
-      head-is h k = rw (e, f, g, le-ltb file_samples count.number h, le-ltb 1 edt.number k)
-
--- ---- what a head was read from
-
+-- what a head was read from
 pub record Parts (bytes : List ℕ) (h : Head) : Type 0 where
   pub count : Headed
   pub mask : Headed

@@ -3,37 +3,33 @@
 use mathlib.Core.Path.{◌≡◌, refl}
 use Prim.Native.Nat.{ℕ}
 use lib.Dec.{eqb}
-use Rattle.dshot_reply_spec.proofs.Inverse.{injective}
-use Rattle.dshot_reply_spec.specs.Answer.{Answer, given, refused, pick}
+use Rattle.std.specs.Prelude.{Result}
+use Rattle.dshot_reply.proofs.Injective.{answer-injective}
+use Rattle.dshot_reply_spec.specs.Answer.{pick}
 use Rattle.dshot_reply_spec.specs.Refusals.{not_acapture}
 use Rattle.capture_file.specs.File.{Told}
-use Rattle.capture_file.specs.FileAnswers.{read_answer, written_answer}
-use Rattle.capture_file.specs.declared.file.CaptureRead.{CaptureRead}
-use Rattle.capture_file.specs.declared.file.CaptureRead.TheVariants as Read
-use Rattle.capture_file.specs.declared.file.CaptureWritten.{CaptureWritten}
-use Rattle.capture_file.specs.declared.file.CaptureWritten.TheVariants as Written
+use Rattle.capture_file.specs.FileAnswers.{error_number, capture_told, read_answer, written_answer}
+use Rattle.capture_file.specs.declared.file.Capture.{Capture}
+use Rattle.capture_file.specs.declared.file.CaptureError.{CaptureError}
+use Rattle.capture_file.specs.declared.file.CaptureError.TheVariants.{NotACapture, WrongLength}
 
-read_of : Answer Told → CaptureRead
-read_of (given t) = Read.Capture t.count t.mask t.edt
-read_of (refused n) = pick (eqb n not_acapture) Read.NotACapture Read.WrongLength
+error_of : ℕ → CaptureError
+error_of n = pick (eqb n not_acapture) NotACapture WrongLength
 
-read_back : (r : CaptureRead) → read_of (read_answer r) ≡ r
-unfolding read_of
-read_back (Read.Capture count mask edt) = refl
-read_back Read.NotACapture = refl
-read_back Read.WrongLength = refl
+error-back : (e : CaptureError) → error_of (error_number e) ≡ e
+unfolding error_of
+error-back NotACapture = refl
+error-back WrongLength = refl
 
-pub read_answer-injective : (r s : CaptureRead) → read_answer r ≡ read_answer s → r ≡ s
-read_answer-injective = injective read_answer read_of read_back
+told_of : Told → Capture
+told_of t = record { count = t.count; mask = t.mask; extended_telemetry = t.edt }
 
-written_of : Answer ℕ → CaptureWritten
-written_of (given n) = Written.Length n
-written_of (refused n) = Written.WrongLength
+told-back : (c : Capture) → told_of (capture_told c) ≡ c
+unfolding told_of
+told-back c = refl
 
-written_back : (w : CaptureWritten) → written_of (written_answer w) ≡ w
-unfolding written_of
-written_back (Written.Length n) = refl
-written_back Written.WrongLength = refl
+pub read_answer-injective : (r s : Result Capture CaptureError) → read_answer r ≡ read_answer s → r ≡ s
+read_answer-injective = answer-injective capture_told told_of error_number error_of told-back error-back
 
-pub written_answer-injective : (w x : CaptureWritten) → written_answer w ≡ written_answer x → w ≡ x
-written_answer-injective = injective written_answer written_of written_back
+pub written_answer-injective : (w x : Result ℕ CaptureError) → written_answer w ≡ written_answer x → w ≡ x
+written_answer-injective = answer-injective (λ n. n) (λ n. n) error_number error_of (λ n. refl) error-back

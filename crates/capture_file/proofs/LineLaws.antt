@@ -11,12 +11,13 @@ use lib.Seq.{set-append_seam, append_snoc}
 use borrow.Author.Tests.{lt-ltb}
 use Rattle.dshot_reply_spec.proofs.Cases.{lt-or-ge}
 use Rattle.dshot_reply_spec.proofs.Table.{at}
-use Rattle.dshot_reply_spec.specs.Answer.{Answer, given, refused, and_then}
+use Rattle.dshot_reply_spec.specs.Answer.{Answer, given, refused}
 use Rattle.dshot_reply_spec.specs.Kind.{kind_number, reading_number}
 use Rattle.capture_file.specs.declared.line.Line.{Line}
-use Rattle.capture_file.specs.Line.{Listed, kind_texts, kind_text, line_of, padded}
+use Rattle.dshot_reply_spec.specs.Value.{Reading}
+use Rattle.capture_file.specs.Line.{Listed, ascii, hexadecimal, decimal, kind_texts, kind_text, line_of, padded}
 use Rattle.capture_file.specs.Steps.{pushed, written}
-use Rattle.capture_file.proofs.DigitLaws.{length-hexadecimal, length-decimal}
+use Rattle.capture_file.proofs.DigitLaws.{hexadecimal-none, hexadecimal-more, decimal-one, decimal-more, length-hexadecimal, length-decimal}
 
 -- bytes that follow others
 pub written-append : (line : Line) (xs ys : List ℕ) → written line (xs ++ ys) ≡ written (written line xs) ys
@@ -70,7 +71,34 @@ line-fits (refused n) = simp length-append (omega (arith, length-decimal 10 n))
 pub written-line : (a : Answer Listed) → written (padded []) (line_of a) ≡ padded (line_of a)
 written-line a = written-padded [] (line_of a) (omega (arith, line-fits a))
 
--- the line of what the next step makes of an answer, which was found to be another
-pub told : {A : Type 0} {a b : Answer A} {r : Line} (next : A → Answer Listed)
-    → a ≡ b → r ≡ padded (line_of (and_then a next)) → r ≡ padded (line_of (and_then b next))
-told next e h = h ∙ ap (λ x. padded (line_of (and_then x next))) e
+-- ---- the fields of a line, one after the other
+
+pub refused_fields : (n : ℕ) → pushed (written (written (padded []) (ascii "refused ")) (decimal n)) 10 ≡ padded (line_of (refused n))
+unfolding line_of
+refused_fields n =
+    let start = ascii "refused " in
+    sym (written-append (padded []) start (decimal n ++ ascii "\n") ∙ written-append (written (padded []) start) (decimal n) (ascii "\n"))
+    ∙ written-line (refused n)
+
+pub listed_fields : (w v : ℕ) (r : Reading)
+    → pushed (written (pushed (written (pushed (written (pushed (written (padded [])
+    (hexadecimal 6 w)) 32) (hexadecimal 3 v)) 32) (kind_text (kind_number r))) 32) (decimal (reading_number r))) 10
+    ≡ padded (line_of (given (record { word = w; value = v; reading = r })))
+unfolding line_of
+listed_fields w v r =
+    sym
+    (written-append _ (hexadecimal 6 w) _
+    ∙ written-append _ (hexadecimal 3 v) _
+    ∙ written-append _ (kind_text (kind_number r)) _
+    ∙ written-append _ (decimal (reading_number r)) _)
+    ∙ written-line (given (record { word = w; value = v; reading = r }))
+
+-- the words of the kinds
+pub kind_words : (kind_text 0 ≡ ascii "erpm") × (kind_text 1 ≡ ascii "temp") × (kind_text 2 ≡ ascii "volt") × (kind_text 3 ≡ ascii "amp")
+    × (kind_text 4 ≡ ascii "debug1") × (kind_text 5 ≡ ascii "debug2") × (kind_text 6 ≡ ascii "debug3")
+    × (kind_text 7 ≡ ascii "state") × (kind_text 8 ≡ ascii "edt") × (kind_text 9 ≡ [])
+unfolding kind_text
+kind_words = (refl, refl, refl, refl, refl, refl, refl, refl, refl, refl)
+
+-- for the goals of `line::Line::push_hexadecimal` and `push_decimal`
+pub ruleset digit_cases = (written_one, hexadecimal-none, hexadecimal-more, decimal-one, decimal-more)

@@ -45,17 +45,20 @@ groups-more n l h = ⊎_elim two three (lt-or-ge n 16384)
         groups-three n s ∙ ap (λ (g : List ℕ). (128 + n % 128) ∷ g) (sym rest)
 
 -- one to three groups
-pub groups-count : (n : ℕ) → (0 < length (groups n)) × (length (groups n) ≤ 3)
-groups-count n = ⊎_elim (λ h. rw (groups-one n h) (omega arith)) (λ l. ⊎_elim (two l) three (lt-or-ge n 16384)) (lt-or-ge n 128)
-  where
-    two : 128 ≤ n → n < 16384 → (0 < length (groups n)) × (length (groups n) ≤ 3)
-    two l h = rw (groups-two n l h) (omega arith)
+pub one-length : (n : ℕ) → n < 128 → length (groups n) ≡ 1
+one-length n h = ap length (groups-one n h)
 
-    three : 16384 ≤ n → (0 < length (groups n)) × (length (groups n) ≤ 3)
-    three h = rw (groups-three n h) (omega arith)
+pub two-length : (n : ℕ) → 128 ≤ n → n < 16384 → length (groups n) ≡ 2
+two-length n l h = ap length (groups-two n l h)
+
+pub three-length : (n : ℕ) → 16384 ≤ n → length (groups n) ≡ 3
+three-length n l = ap length (groups-three n l)
+
+pub groups-count : (n : ℕ) → (0 < length (groups n)) × (length (groups n) ≤ 3)
+groups-count n = grind (arith, one-length, two-length, three-length)
 
 pub groups-short : (n : ℕ) → n < 16384 → length (groups n) ≤ 2
-groups-short n h = ⊎_elim (λ l. rw (groups-one n l) (omega arith)) (λ l. rw (groups-two n l h) (omega arith)) (lt-or-ge n 128)
+groups-short n h = grind (arith, one-length, two-length)
 
 -- ---- reading one group
 

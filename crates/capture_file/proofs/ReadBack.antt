@@ -54,7 +54,7 @@ file-read c v =
     let head = head_read (length c.samples) c.mask c.edt (all_groups c.samples) v.count v.pins in
     rw (head, all_read c.samples v.each)
 
-all_most : (xs : List ℕ) → length (all_groups xs) ≤ 3 * length xs
+pub all_most : (xs : List ℕ) → length (all_groups xs) ≤ 3 * length xs
 all_most [] = omega arith
 all_most (x ∷ xs) = rw (length-append (groups x) (all_groups xs)) (omega (arith, (groups-count x).1, all_most xs))
 

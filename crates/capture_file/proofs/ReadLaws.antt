@@ -4,13 +4,10 @@ use mathlib.Core.Path.{◌≡◌, refl, sym, ap, ◌∙◌}
 use mathlib.Core.Logic.{⊎_elim}
 use mathlib.Core.Bool.{Bool, true, false}
 use mathlib.Core.List.{List, [], ◌∷◌}
-use Prim.Native.Nat.{ℕ, suc, ◌+◌, ◌-◌, ◌*◌, ◌≤◌, ◌<◌}
+use Prim.Native.Nat.{ℕ, ◌+◌, ◌-◌, ◌*◌, ◌≤◌, ◌<◌}
 use native.Mathlib.Omega.{arith}
-use native.Mathlib.Nat.{add-zero}
-use native.Mathlib.Numerals.{add-one}
 use lib.Dec.{eqb, ltb}
-use lib.ListN.{length, drop, get_or, get_or-eq_default}
-use lib.Seq.{drop-cons, get_or-drop}
+use lib.ListN.{length}
 use borrow.Author.Tests.{eq-eqb, lt-ltb, le-ltb}
 use Rattle.dshot_reply_spec.specs.Answer.{Answer, given, refused, and_then, pick}
 use Rattle.dshot_reply_spec.specs.Refusals.{not_acapture}
@@ -32,37 +29,47 @@ number_is s a e = ap bounded e
 small : (n : ℕ) (s : List ℕ) → n ≤ 65535 → bounded (given (headed n s)) ≡ given (headed n s)
 small n s h = rw (le-ltb 65535 n h)
 
-pub no-group : read_number [] ≡ refused not_acapture
+pub no-group : (s : List ℕ) → length s ≡ 0 → read_number s ≡ refused not_acapture
 unfolding read_number
-no-group = refl
+no-group [] h = refl
+no-group (b ∷ s) h = absurd (omega arith)
 
 pub one-group : (a : ℕ) (s : List ℕ) → a < 128 → read_number (a ∷ s) ≡ given (headed a s)
 one-group a s h = number_is (a ∷ s) _ (last-group a s h) ∙ small a s (omega arith)
 
 -- no number after a group with the top bit, or 0
-zero-next : (a : ℕ) (s : List ℕ) → 128 ≤ a → get_or s 0 0 ≡ 0 → read_groups (a ∷ s) ≡ refused not_acapture
-zero-next a [] l e = more-groups a [] l
-zero-next a (b ∷ s) l e = more-groups a (b ∷ s) l ∙ ap (longer a) (last-group b s (omega arith)) ∙ rw (eq-eqb b 0 e)
+cut-off : (a : ℕ) (s : List ℕ) → 128 ≤ a → length s ≡ 0 → read_groups (a ∷ s) ≡ refused not_acapture
+cut-off a [] l h = more-groups a [] l
+cut-off a (b ∷ s) l h = absurd (omega arith)
 
-pub zero-second : (a : ℕ) (s : List ℕ) → 128 ≤ a → get_or s 0 0 ≡ 0 → read_number (a ∷ s) ≡ refused not_acapture
-zero-second a s l e = number_is (a ∷ s) _ (zero-next a s l e)
+zero-next : (a b : ℕ) (s : List ℕ) → 128 ≤ a → b ≡ 0 → read_groups (a ∷ b ∷ s) ≡ refused not_acapture
+zero-next a b s l e = more-groups a (b ∷ s) l ∙ ap (longer a) (last-group b s (omega arith)) ∙ rw (eq-eqb b 0 e)
 
-pub two-groups : (a b : ℕ) (s : List ℕ) → 128 ≤ a → a ≤ 255 → (b ≡ 0 → ⊥) → b < 128
+pub no-second : (a : ℕ) (s : List ℕ) → 128 ≤ a → length s ≡ 0 → read_number (a ∷ s) ≡ refused not_acapture
+no-second a s l h = number_is (a ∷ s) _ (cut-off a s l h)
+
+pub zero-second : (a b : ℕ) (s : List ℕ) → 128 ≤ a → b ≡ 0 → read_number (a ∷ b ∷ s) ≡ refused not_acapture
+zero-second a b s l e = number_is (a ∷ b ∷ s) _ (zero-next a b s l e)
+
+pub two-groups : (a b : ℕ) (s : List ℕ) → 128 ≤ a → a ≤ 255 → 0 < b → b < 128
     → read_number (a ∷ b ∷ s) ≡ given (headed (a - 128 + 128 * b) s)
 two-groups a b s l m n h =
-    number_is (a ∷ b ∷ s) _ (more-groups a (b ∷ s) l ∙ ap (longer a) (last-group b s h) ∙ longer-given a b s n)
+    number_is (a ∷ b ∷ s) _ (more-groups a (b ∷ s) l ∙ ap (longer a) (last-group b s h) ∙ longer-given a b s (λ z. omega arith))
     ∙ small (a - 128 + 128 * b) s (omega arith)
 
-pub zero-third : (a b : ℕ) (s : List ℕ) → 128 ≤ a → 128 ≤ b → get_or s 0 0 ≡ 0 → read_number (a ∷ b ∷ s) ≡ refused not_acapture
-zero-third a b s l k e = number_is (a ∷ b ∷ s) _ (more-groups a (b ∷ s) l ∙ ap (longer a) (zero-next b s k e))
+pub no-third : (a b : ℕ) (s : List ℕ) → 128 ≤ a → 128 ≤ b → length s ≡ 0 → read_number (a ∷ b ∷ s) ≡ refused not_acapture
+no-third a b s l k h = number_is (a ∷ b ∷ s) _ (more-groups a (b ∷ s) l ∙ ap (longer a) (cut-off b s k h))
+
+pub zero-third : (a b d : ℕ) (s : List ℕ) → 128 ≤ a → 128 ≤ b → d ≡ 0 → read_number (a ∷ b ∷ d ∷ s) ≡ refused not_acapture
+zero-third a b d s l k e = number_is (a ∷ b ∷ d ∷ s) _ (more-groups a (b ∷ d ∷ s) l ∙ ap (longer a) (zero-next b d s k e))
 
 module _ (a b d : ℕ) (s : List ℕ) (l : 128 ≤ a) (k : 128 ≤ b) where
-  pub three-groups : a ≤ 255 → b ≤ 255 → (d ≡ 0 → ⊥) → d ≤ 3
+  pub three-groups : a ≤ 255 → b ≤ 255 → 0 < d → d ≤ 3
       → read_number (a ∷ b ∷ d ∷ s) ≡ given (headed (a - 128 + 128 * (b - 128 + 128 * d)) s)
   three-groups m o n h =
       let two : read_groups (b ∷ d ∷ s) ≡ given (headed (b - 128 + 128 * d) s) =
-      more-groups b (d ∷ s) k ∙ ap (longer b) (last-group d s (omega arith)) ∙ longer-given b d s n in
-      number_is (a ∷ b ∷ d ∷ s) _ (more-groups a (b ∷ d ∷ s) l ∙ ap (longer a) two ∙ longer-given a (b - 128 + 128 * d) s (λ z. n (omega arith)))
+      more-groups b (d ∷ s) k ∙ ap (longer b) (last-group d s (omega arith)) ∙ longer-given b d s (λ z. omega arith) in
+      number_is (a ∷ b ∷ d ∷ s) _ (more-groups a (b ∷ d ∷ s) l ∙ ap (longer a) two ∙ longer-given a (b - 128 + 128 * d) s (λ z. omega arith))
       ∙ small (a - 128 + 128 * (b - 128 + 128 * d)) s (omega arith)
 
 -- ---- more than 65535
@@ -107,16 +114,5 @@ pub large-third : (a b d : ℕ) (s : List ℕ) → 128 ≤ a → 128 ≤ b → 3
 large-third a b d s l k h =
     too_large (a ∷ b ∷ d ∷ s) (in-front 512 a (b ∷ d ∷ s) l (λ q e z. in-front 4 b (d ∷ s) k (λ r f y. four d s h r f) q e))
 
--- ---- the bytes at a place
-
--- the byte at a place, and those after it
-pub from-here : (s : List ℕ) (i k b : ℕ) → i < length s → i + 1 ≡ k → b ≡ get_or s i 0 → drop i s ≡ b ∷ drop k s
-from-here s i k b h e q = drop-cons s i 0 h ∙ ap (λ (x : ℕ). x ∷ drop (suc i) s) (sym q) ∙ ap (λ (n : ℕ). b ∷ drop n s) (sym (add-one i) ∙ e)
-
--- the same for a byte that is not 0, which so is not missing
-pub some-here : (s : List ℕ) (i k b : ℕ) → i + 1 ≡ k → b ≡ get_or s i 0 → (b ≡ 0 → ⊥) → drop i s ≡ b ∷ drop k s
-some-here s i k b e q n = from-here s i k b (⊎_elim (λ h. h) (λ h. absurd (n (q ∙ get_or-eq_default s 0 h))) (lt-or-ge i (length s))) e q
-
--- a byte that is 0 or missing
-pub zero-here : (s : List ℕ) (i b : ℕ) → b ≡ get_or s i 0 → b ≡ 0 → get_or (drop i s) 0 0 ≡ 0
-zero-here s i b e z = get_or-drop i s 0 0 ∙ ap (λ (k : ℕ). get_or s k 0) (add-zero i) ∙ sym e ∙ z
+-- for the goals of `number::read_number`
+pub ruleset number_cases = (no-group, one-group, no-second, zero-second, two-groups, no-third, zero-third, large-third, three-groups)

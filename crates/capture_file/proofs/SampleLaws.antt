@@ -1,115 +1,98 @@
 -- The samples of a file, one at a time: they are found to be there, and then filled into slots.
 -- Assumes nothing.
 use mathlib.Core.Path.{◌≡◌, refl, sym, ap, ◌∙◌}
-use mathlib.Core.Logic.{⊎_elim}
 use mathlib.Core.Bool.{true, false}
-use mathlib.Core.List.{List, [], ◌∷◌}
+use mathlib.Core.List.{List, [], ◌∷◌, ◌++◌, append_assoc, append-nil}
 use Prim.Native.Nat.{ℕ, zero, suc, ◌+◌, ◌-◌, ◌≤◌, ◌<◌}
-use native.Mathlib.Omega.{arith}
 use native.Mathlib.Nat.{sub-zero}
-use lib.Dec.{leb}
-use lib.ListN.{length, drop, set, length-set, drop_of_length-le}
-use lib.Seq.{drop-cons}
-use borrow.Author.Tests.{le-leb, lt-leb}
-use Rattle.dshot_reply_spec.specs.Answer.{Answer, given, refused, and_then, is_given, filled}
+use native.Mathlib.Omega.{arith}
+use lib.Dec.{eqb}
+use lib.ListN.{length, take, set, length-set}
+use lib.Seq.{take_all}
+use borrow.Author.Tests.{ne_eqb}
+use Rattle.std.specs.Prelude.{Option, Some, None, IsSome}
+use Rattle.std.specs.Borrow.{Bor}
+use Rattle.std.proofs.lemmas.List.{take_more_set}
+use Rattle.dshot_reply_spec.specs.Answer.{Answer, given, refused, and_then, is_given}
 use Rattle.dshot_reply_spec.specs.Refusals.{not_acapture}
-use Rattle.dshot_reply_spec.proofs.Cases.{lt-or-ge}
-use Rattle.dshot_reply_spec.proofs.Choice.{not-both}
-use Rattle.dshot_reply_spec.proofs.Given.{then-given}
-use Rattle.capture_file.proofs.AnswerLaws.{same-given, is-given}
-use Rattle.capture_file.proofs.WriteLaws.{put_one, put-put, put-none, put_first}
 use Rattle.capture_file.specs.Groups.{Headed, headed, read_number, read_all}
-use Rattle.capture_file.specs.File.{front}
-use Rattle.capture_file.specs.FileSteps.{put}
+use Rattle.capture_file.specs.FileSteps.{number_answer}
 
--- ---- the next sample that is read
+-- ---- whether samples are there
 
-abbrev another : ℕ → Answer (List ℕ) → Answer (List ℕ)
-another x a = and_then a (λ xs. given (x ∷ xs))
-
-same_known : (x : ℕ) (a : Answer (List ℕ)) → is_given (another x a) ≡ is_given a
+same_known : (x : ℕ) (a : Answer (List ℕ)) → is_given (and_then a (λ xs. given (x ∷ xs))) ≡ is_given a
 same_known x (given xs) = refl
 same_known x (refused n) = refl
 
-all-next : (n m : ℕ) (s : List ℕ) (a : Answer Headed) → n ≡ suc m → read_number s ≡ a
-    → read_all n s ≡ and_then a (λ r. another r.number (read_all m r.rest))
-all-next n m s a e f =
-    ap (λ (k : ℕ). read_all k s) e ∙ ap (λ (x : Answer Headed). and_then x (λ r. another r.number (read_all m r.rest))) f
+-- the first of n numbers, and whether the others are there
+pub none-known : (n : ℕ) (s : List ℕ) → 0 < n → refused not_acapture ≡ read_number s → is_given (read_all n s) ≡ false
+none-known zero s h e = absurd (omega arith)
+none-known (suc n) s h e = rw (← e)
 
-module _ (n : ℕ) (s : List ℕ) (some : 0 < n) where
-  all_none : read_number s ≡ refused not_acapture → read_all n s ≡ refused not_acapture
-  all_none e = all-next n (n - 1) s (refused not_acapture) (omega arith) e
+pub more-known : (n i : ℕ) (s : List ℕ) (x : ℕ) (t : List ℕ) → i < n → given (headed x t) ≡ read_number s
+    → is_given (read_all (n - i) s) ≡ is_given (read_all (n - (i + 1)) t)
+more-known n i s x t h e = go (n - i) (n - (i + 1)) (omega arith)
+  where
+    go : (k m : ℕ) → k ≡ m + 1 → is_given (read_all k s) ≡ is_given (read_all m t)
+    go zero m h = absurd (omega arith)
+    go (suc k) m h = let same : k ≡ m = omega arith in rw (← e, same) (same_known x (read_all m t))
 
-  all_more : (r : Headed) → read_number s ≡ given r → read_all n s ≡ another r.number (read_all (n - 1) r.rest)
-  all_more r e = all-next n (n - 1) s (given r) (omega arith) e
+-- no number is left
+pub none-left : (n : ℕ) (s : List ℕ) → n ≡ 0 → is_given (read_all n s) ≡ eqb (length s) 0
+none-left zero [] h = refl
+none-left zero (b ∷ s) h = sym (ne_eqb (length (b ∷ s)) 0 (λ z. omega arith))
+none-left (suc n) s h = absurd (omega arith)
 
-  -- whether they are all there
-  pub none-known : read_number s ≡ refused not_acapture → is_given (read_all n s) ≡ false
-  none-known e = ap is_given (all_none e)
-
-  pub more-known : (r : Headed) → read_number s ≡ given r → is_given (read_all n s) ≡ is_given (read_all (n - 1) r.rest)
-  more-known r e = ap is_given (all_more r e) ∙ same_known r.number (read_all (n - 1) r.rest)
-
-pub nothing_left : (s : List ℕ) (i : ℕ) → leb (length s) i ≡ is_given (read_all zero (drop i s))
-nothing_left s i =
-    ⊎_elim
-    (λ h. lt-leb (length s) i h ∙ sym (ap (λ (t : List ℕ). is_given (read_all zero t)) (drop-cons s i 0 h)))
-    (λ h. le-leb (length s) i h ∙ sym (ap (λ (t : List ℕ). is_given (read_all zero t)) (drop_of_length-le s h)))
-    (lt-or-ge i (length s))
+-- for the goals of `file::are_samples`
+pub ruleset are_samples_cases = (none-known, more-known, none-left)
 
 -- ---- samples into slots
 
--- The numbers from place `at` on replace the slots from i on, if the whole file's samples are to fill the first slots.
-pub record Filling (bytes slots : List ℕ) (from count : ℕ) (now : List ℕ) (at i : ℕ) : Type 0 where
-  pub left : List ℕ
-  pub reads : read_all (count - i) (drop at bytes) ≡ given left
-  pub whole : put i left now ≡ filled (front slots) slots (read_all count (drop from bytes))
-  pub same : length now ≡ length slots
-  pub within : i ≤ count
+then-empty : (a : Answer (List ℕ)) → a ≡ and_then a (λ ys. given ([] ++ ys))
+then-empty (given xs) = refl
+then-empty (refused n) = refl
 
-module _ (bytes slots : List ℕ) (from count : ℕ) where
-  pub filling-start : is_given (read_all count (drop from bytes)) ≡ true → Filling bytes slots from count slots from 0
-  filling-start e =
-      let k = is-given (read_all count (drop from bytes)) e in
+then-more : (a : Answer (List ℕ)) (xs : List ℕ) (x : ℕ)
+    → and_then (and_then a (λ ys. given (x ∷ ys))) (λ ys. given (xs ++ ys)) ≡ and_then a (λ ys. given ((xs ++ (x ∷ [])) ++ ys))
+then-more (given ys) xs x = simp append_assoc
+then-more (refused n) xs x = refl
+
+-- the first of n numbers, before the others
+first-then : (n m : ℕ) (s xs : List ℕ) (r : Headed) → n ≡ m + 1 → given r ≡ read_number s
+    → and_then (read_all n s) (λ ys. given (xs ++ ys)) ≡ and_then (read_all m r.rest) (λ ys. given ((xs ++ (r.number ∷ [])) ++ ys))
+first-then zero m s xs r h e = absurd (omega arith)
+first-then (suc n) m s xs r h e = let same : n ≡ m = omega arith in rw (← e, same) (then-more (read_all m r.rest) xs r.number)
+
+no-more : (n : ℕ) (s xs : List ℕ) → n ≡ 0 → is_given (read_all n s) ≡ true → and_then (read_all n s) (λ ys. given (xs ++ ys)) ≡ given xs
+no-more zero [] xs h k = ap given (append-nil xs)
+no-more zero (b ∷ s) xs h k = absurd (cc)
+no-more (suc n) s xs h k = absurd (omega arith)
+
+-- The numbers that the bytes are known to be are those in the first i slots, and then those that the bytes s are.
+pub record Filling (bytes slots : List ℕ) (i : ℕ) (s : List ℕ) : Type 0 where
+  pub known : is_given (read_all (length slots - i) s) ≡ true
+  pub whole : read_all (length slots) bytes ≡ and_then (read_all (length slots - i) s) (λ ys. given (take i slots ++ ys))
+
+pub filling-start : (bytes slots : List ℕ) → is_given (read_all (length slots) bytes) ≡ true → Filling bytes slots 0 bytes
+filling-start bytes slots e = record { known = rw sub-zero e; whole = rw sub-zero (then-empty (read_all (length slots) bytes)) }
+
+module _ {bytes slots : List ℕ} {i : ℕ} {s : List ℕ} (f : Filling bytes slots i s) where
+  -- each number was found to be there
+  pub filling-some : (o : Option (ℕ × Bor (List ℕ))) → i < length slots → number_answer o ≡ read_number s → IsSome o
+  filling-some (Some p) h e = refl
+  filling-some None h e = absurd (cc (f.known, none-known (length slots - i) s (omega arith) e))
+
+  -- a number that was read goes into the next slot
+  pub filling-more : (r : Headed) → i < length slots → given r ≡ read_number s → Filling bytes (set slots i r.number) (i + 1) r.rest
+  filling-more r h e =
+      let left : length slots - i ≡ length slots - (i + 1) + 1 = omega arith in
       record {
-        left = k.0;
-        reads = ap (λ (n : ℕ). read_all n (drop from bytes)) (sub-zero count) ∙ k.1;
-        whole = put_first k.0 slots ∙ sym (ap (filled (front slots) slots) k.1);
-        same = refl;
-        within = omega arith;
+        known = rw length-set (sym (more-known (length slots) i s r.number r.rest h e) ∙ f.known);
+        whole = rw (length-set, take_more_set slots i r.number h) (f.whole ∙ first-then (length slots - i) _ s (take i slots) r left e);
       }
 
-module _ {bytes slots : List ℕ} {from count : ℕ} {now : List ℕ} {at i : ℕ} (f : Filling bytes slots from count now at i) where
-  -- a sample that was read goes into the next slot
-  pub filling-more : count ≤ length slots → i < count → (x next : ℕ)
-      → read_number (drop at bytes) ≡ given (headed x (drop next bytes)) → Filling bytes slots from count (set now i x) next (i + 1)
-  filling-more room h x next e =
-      let split = all_more (count - i) (drop at bytes) (omega arith) (headed x (drop next bytes)) e in
-      let t = then-given (read_all (count - i - 1) (drop next bytes)) _ (sym split ∙ f.reads) in
-      let fits : i + 1 ≤ length now = omega (arith, f.same) in
-      let less : count - (i + 1) ≡ count - i - 1 = omega arith in
-      record {
-        left = t.0;
-        reads = ap (λ (n : ℕ). read_all n (drop next bytes)) less ∙ t.1;
-        whole =
-            ap (put (i + 1) t.0) (put_one now i x fits)
-            ∙ put-put i (x ∷ []) t.0 now (omega arith)
-            ∙ ap (λ (xs : List ℕ). put i xs now) (same-given t.2)
-            ∙ f.whole;
-        same = length-set now i x ∙ f.same;
-        within = omega arith;
-      }
+  pub filling-end : length slots ≤ i → read_all (length slots) bytes ≡ given slots
+  filling-end h = rw (take_all i slots h) at (f.whole ∙ no-more (length slots - i) s (take i slots) (omega arith) f.known)
 
-  -- each sample was found to be there
-  pub filling-never : i < count → read_number (drop at bytes) ≡ refused not_acapture → ⊥
-  filling-never h e = not-both f.reads (all_none (count - i) (drop at bytes) (omega arith) e)
-
-  pub filling-end : count ≤ i → now ≡ filled (front slots) slots (read_all count (drop from bytes))
-  filling-end h =
-      let z : count - i ≡ 0 = omega (arith, f.within) in
-      let none = no_more (drop at bytes) f.left (ap (λ (n : ℕ). read_all n (drop at bytes)) (sym z) ∙ f.reads) in
-      sym (ap (λ (xs : List ℕ). put i xs now) none ∙ put-none i now) ∙ f.whole
-    where
-      no_more : (s xs : List ℕ) → read_all zero s ≡ given xs → xs ≡ []
-      no_more [] xs e = sym (same-given e)
-      no_more (b ∷ s) xs e = absurd (not-both e refl)
+-- for the goals of `file::fill_samples`
+pub ruleset fill_cases = (filling-start, filling-some, filling-end)

@@ -1,21 +1,27 @@
--- What each case of the enums that read and write capture files means in document 01's numbers and values.
+-- What each case of the code's types for capture files means in document 01's numbers and values.
 -- Assumes nothing.
-use Rattle.std.specs.Prelude.{ℕ}
-use Rattle.dshot_reply_spec.specs.Answer.{Answer, given, refused}
+use Rattle.std.specs.Prelude.{ℕ, Result}
+use Rattle.dshot_reply.specs.Answers.{answer}
+use Rattle.dshot_reply_spec.specs.Answer.{Answer}
 use Rattle.dshot_reply_spec.specs.Refusals.{not_acapture, wrong_length}
 use Rattle.capture_file.specs.File.{Told}
-use Rattle.capture_file.specs.declared.file.CaptureRead.{CaptureRead}
-use Rattle.capture_file.specs.declared.file.CaptureRead.TheVariants as Read
-use Rattle.capture_file.specs.declared.file.CaptureWritten.{CaptureWritten}
-use Rattle.capture_file.specs.declared.file.CaptureWritten.TheVariants as Written
+use Rattle.capture_file.specs.declared.file.Capture.{Capture}
+use Rattle.capture_file.specs.declared.file.CaptureError.{CaptureError}
+use Rattle.capture_file.specs.declared.file.CaptureError.TheVariants.{NotACapture, WrongLength}
+
+-- the number of each refusal
+abbrev pub error_number : CaptureError → ℕ
+error_number NotACapture = not_acapture
+error_number WrongLength = wrong_length
+
+-- what a file holds besides its samples
+abbrev pub capture_told : Capture → Told
+capture_told c = record { count = c.count; mask = c.mask; edt = c.extended_telemetry }
 
 -- what the reader answers for a capture
-abbrev pub read_answer : CaptureRead → Answer Told
-read_answer (Read.Capture count mask edt) = given (record { count = count; mask = mask; edt = edt })
-read_answer Read.NotACapture = refused not_acapture
-read_answer Read.WrongLength = refused wrong_length
+abbrev pub read_answer : Result Capture CaptureError → Answer Told
+read_answer = answer capture_told error_number
 
 -- the length of the file that was written, or the refusal
-abbrev pub written_answer : CaptureWritten → Answer ℕ
-written_answer (Written.Length n) = given n
-written_answer Written.WrongLength = refused wrong_length
+abbrev pub written_answer : Result ℕ CaptureError → Answer ℕ
+written_answer = answer (λ n. n) error_number

@@ -1,6 +1,11 @@
--- What one step of the writer of a line does. Only the contracts of private functions cite this; no public promise does.
+-- What the steps of listing a capture do. Only the contracts of private functions cite these; no public promise does.
 -- Assumes nothing.
-use Rattle.std.specs.Prelude.{ℕ, ◌+◌, List, [], ◌∷◌, ltb, set, if◌then◌else◌}
+use Rattle.std.specs.Prelude.{ℕ, ◌+◌, List, [], ◌∷◌, ltb, set, if◌then◌else◌, Result}
+use Rattle.dshot_reply.specs.Answers.{answer, error_number, reading}
+use Rattle.dshot_reply.specs.declared.DshotReplyError.{DshotReplyError}
+use Rattle.dshot_reply_spec.specs.Answer.{Answer}
+use Rattle.capture_file.specs.Line as Told
+use Rattle.capture_file.specs.declared.line.Listed.{Listed}
 use Rattle.capture_file.specs.declared.line.Line.{Line}
 
 -- a line with one more byte at its end; a full line stays as it is
@@ -11,3 +16,10 @@ pushed line b = if ltb line.length 32 then record { bytes = set line.bytes line.
 abbrev pub written : Line → List ℕ → Line
 written line [] = line
 written line (b ∷ bs) = written (pushed line b) bs
+
+-- what was read of a capture
+abbrev pub listed_so : Listed → Told.Listed
+listed_so l = record { word = l.word; value = l.value; reading = reading l.reply }
+
+abbrev pub listed_answer : Result Listed DshotReplyError → Answer Told.Listed
+listed_answer = answer listed_so error_number

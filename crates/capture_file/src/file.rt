@@ -1,13 +1,15 @@
 // Added: reads a capture file into slots for its samples, and writes one into a buffer.
 
-ghost use Rattle.std.specs.Prelude.{◌≡◌, true, ◌+◌, ◌≤◌, length, drop, if◌then◌else◌};
-ghost use Rattle.dshot_reply_spec.specs.Answer.{and_then, is_given, filled};
+ghost use Rattle.std.specs.Prelude.{◌≡◌, true, ◌+◌, ◌≤◌, length};
+ghost use Rattle.dshot_reply.specs.Refusals.{refusal_number};
+ghost use Rattle.dshot_reply_spec.specs.Answer.{given, and_then, is_given, filled};
 ghost use Rattle.capture_file.specs.Groups.{read_all};
 ghost use Rattle.capture_file.specs.File.{all_groups, capture, read_head, front, slots_of, read_into, written_into, told, byte_count};
-ghost use Rattle.capture_file.specs.FileAnswers.{read_answer, written_answer};
+ghost use Rattle.capture_file.specs.FileAnswers.{error_number, read_answer, written_answer};
 ghost use Rattle.capture_file.specs.FileSteps.{put, head_answer};
 
-use crate::number::{NumberRead, put_number, read_number};
+use crate::number::{put_number, read_number};
+use dshot_reply::refusals::Refusal;
 
 // The most samples that a file holds.
 pub const FILE_SAMPLES: usize = 4096;
@@ -15,193 +17,137 @@ pub const FILE_SAMPLES: usize = 4096;
 // The bytes of the longest file: two for the count, three for the mask, one for EDT, and three for each sample.
 pub const FILE_BYTES: usize = 12294;
 
-// What stands before the samples of a file, and the place of the first sample.
-#[derive(Clone, Copy)]
-enum HeadRead {
-    Head {
-        count: usize,
-        mask: u16,
-        extended_telemetry: bool,
-        next: usize,
-    },
+// What a file holds besides its samples.
+#[derive(Clone, Copy, Debug, PartialEq, Eq)]
+pub struct Capture {
+    pub count: usize,
+    pub mask: u16,
+    pub extended_telemetry: bool,
+}
+
+// Why a file was not read or written.
+#[derive(Clone, Copy, Debug, PartialEq, Eq)]
+pub enum CaptureError {
     NotACapture,
+    // A slice has the wrong length.
+    WrongLength,
 }
 
-fn wide(number: u16) -> usize
-    ensures { result ≡ number }
-{
-    number as usize
+impl From<CaptureError> for Refusal {
+    ghost from_gives = { λ e r. refusal_number r ≡ error_number e };
+
+    fn from(error: CaptureError) -> Refusal {
+        match error {
+            CaptureError::NotACapture => Refusal::NotACapture,
+            CaptureError::WrongLength => Refusal::WrongLength,
+        }
+    }
 }
 
-// Reads the three numbers before the samples.
-fn read_head(file: &[u8]) -> HeadRead
-    ensures { head_answer file.now result ≡ read_head file.now }
+// Reads the three numbers before the samples, and the bytes after them.
+#[tactic(auto, unfolding(crate::specs::File::read_head))]
+fn read_head(file: &[u8]) -> Option<(Capture, &[u8])>
+    ensures { head_answer result ≡ read_head file.now }
 {
-    let NumberRead::Number {
-        value: count,
-        next: mask_at,
-    } = read_number(file, 0)
-    else {
-        return HeadRead::NotACapture;
-    };
-    let NumberRead::Number {
-        value: mask,
-        next: edt_at,
-    } = read_number(file, mask_at)
-    else {
-        return HeadRead::NotACapture;
-    };
-    let NumberRead::Number { value: edt, next } = read_number(file, edt_at) else {
-        return HeadRead::NotACapture;
-    };
-    let count = wide(count);
-    if FILE_SAMPLES < count {
-        return HeadRead::NotACapture;
+    let (count, rest) = read_number(file)?;
+    let (mask, rest) = read_number(rest)?;
+    let (edt, rest) = read_number(rest)?;
+    let count = usize::from(count);
+    if FILE_SAMPLES < count || 1 < edt {
+        return None;
     }
-    if 1 < edt {
-        return HeadRead::NotACapture;
-    }
-    HeadRead::Head {
+    let capture = Capture {
         count,
         mask,
         extended_telemetry: edt == 1,
-        next,
-    }
+    };
+    Some((capture, rest))
 }
 
-// Whether `count` numbers stand from a place on, with nothing after them.
-fn are_samples(file: &[u8], from: usize, count: usize) -> bool
-    ensures { result ≡ is_given (read_all count (drop from file.now)) }
+// Whether bytes are `count` numbers, with nothing after them.
+#[tactic(auto, using(crate::proofs::SampleLaws::are_samples_cases))]
+fn are_samples(bytes: &[u8], count: usize) -> bool
+    ensures { result ≡ is_given (read_all count bytes.now) }
 {
-    let mut at = from;
-    let mut left = count;
-    while 0 < left {
-        match read_number(file, at) {
-            NumberRead::Number { value: _, next } => {
-                at = next;
-            }
-            NumberRead::NotANumber => {
-                return false;
-            }
-        }
-        left -= 1;
+    let mut rest = bytes;
+    for _ in 0..count {
+        let Some((_, after)) = read_number(rest) else {
+            return false;
+        };
+        rest = after;
     }
-    file.len() <= at
+    rest.is_empty()
 }
 
-// Fills the first slots with the numbers from a place on. All of them are known to be there.
-fn fill_samples(file: &[u8], from: usize, count: usize, samples: &mut [u16])
-    requires { (count ≤ length samples.old) × (is_given (read_all count (drop from file.now)) ≡ true) }
-    ensures { samples.new
-        ≡ filled (front samples.old) samples.old (read_all count (drop from file.now)) }
+// Fills slots with the numbers that bytes are. All of them are known to be there.
+#[tactic(auto, using(crate::proofs::SampleLaws::fill_cases))]
+fn fill_samples(bytes: &[u8], samples: &mut [u16])
+    requires { is_given (read_all (length samples.old) bytes.now) ≡ true }
+    ensures { read_all (length samples.old) bytes.now ≡ given samples.new }
 {
-    let mut at = from;
-    let mut i = 0;
-    while i < count {
-        match read_number(file, at) {
-            NumberRead::Number { value, next } => {
-                samples[i] = value;
-                at = next;
-            }
-            NumberRead::NotANumber => {
-                return;
-            }
-        }
-        i += 1;
+    let mut rest = bytes;
+    for slot in samples {
+        let (value, after) = read_number(rest).unwrap();
+        *slot = value;
+        rest = after;
     }
-}
-
-// What a file holds besides its samples, or why it was not read.
-#[derive(Clone, Copy)]
-pub enum CaptureRead {
-    Capture {
-        count: usize,
-        mask: u16,
-        extended_telemetry: bool,
-    },
-    NotACapture,
-    WrongLength,
 }
 
 // Reads a file. Its samples go into the first of `FILE_SAMPLES` slots, and the other slots stay as they were. The whole file is read before the first
 // slot is filled. So if the call refuses, all slots stay as they were.
-pub fn read_capture(file: &[u8], samples: &mut [u16]) -> CaptureRead
+#[tactic(auto, using(crate::proofs::CallLaws::read_cases), unfolding(crate::specs::File::read_into, crate::specs::File::read_file))]
+pub fn read_capture(file: &[u8], samples: &mut [u16]) -> Result<Capture, CaptureError>
     ensures result_value { read_answer result ≡ and_then (read_into file.now samples.old) told }
     ensures samples_after { samples.new
         ≡ filled (slots_of samples.old) samples.old (read_into file.now samples.old) }
 {
     if samples.len() != FILE_SAMPLES {
-        return CaptureRead::WrongLength;
+        return Err(CaptureError::WrongLength);
     }
-    let HeadRead::Head {
-        count,
-        mask,
-        extended_telemetry,
-        next,
-    } = read_head(file)
-    else {
-        return CaptureRead::NotACapture;
-    };
-    if !are_samples(file, next, count) {
-        return CaptureRead::NotACapture;
+    let (capture, rest) = read_head(file).ok_or(CaptureError::NotACapture)?;
+    if !are_samples(rest, capture.count) {
+        return Err(CaptureError::NotACapture);
     }
-    fill_samples(file, next, count, samples);
-    CaptureRead::Capture {
-        count,
-        mask,
-        extended_telemetry,
-    }
+    fill_samples(rest, &mut samples[..capture.count]);
+    Ok(capture)
 }
 
-// Writes the samples from a place on, and returns the place after them.
-fn put_samples(file: &mut [u8], from: usize, samples: &[u16]) -> usize
-    requires { from + length (all_groups samples.now) ≤ length file.old }
-    ensures value { result ≡ from + length (all_groups samples.now) }
-    ensures file_after { file.new ≡ put from (all_groups samples.now) file.old }
+// Writes numbers from a place on, and returns the place after them.
+#[tactic(auto, using(crate::proofs::WriteLaws::ahead_cases))]
+fn put_numbers(file: &mut [u8], from: usize, numbers: &[u16]) -> usize
+    requires { from + length (all_groups numbers.now) ≤ length file.old }
+    ensures value { result ≡ from + length (all_groups numbers.now) }
+    ensures file_after { file.new ≡ put from (all_groups numbers.now) file.old }
 {
     let mut at = from;
-    let mut i = 0;
-    while i < samples.len() {
-        at = put_number(file, at, samples[i]);
-        i += 1;
+    for number in numbers {
+        at = put_number(file, at, *number);
     }
     at
 }
 
-// The length of the file that was written. If a slice has the wrong length, the refusal.
-#[derive(Clone, Copy)]
-pub enum CaptureWritten {
-    Length(usize),
-    WrongLength,
-}
-
-fn flag(set: bool) -> u16
-    ensures { result ≡ (if set then 1 else 0) }
-{
-    if set { 1 } else { 0 }
-}
-
-// Writes the file of a capture at the front of a buffer of `FILE_BYTES` bytes. The rest of the buffer stays as it was.
+// Writes the file of a capture at the front of a buffer of `FILE_BYTES` bytes, and returns the file's length. The rest of the buffer stays as it was.
+#[tactic(auto, using(crate::proofs::CallLaws::write_cases), unfolding(crate::specs::File::written_into))]
 pub fn write_capture(
     samples: &[u16],
     pin_mask: u16,
     extended_telemetry: bool,
     file: &mut [u8],
-) -> CaptureWritten
+) -> Result<usize, CaptureError>
     ensures result_value { written_answer result
         ≡ and_then (written_into (capture pin_mask extended_telemetry samples.now) file.old) byte_count }
     ensures file_after { file.new
         ≡ filled (front file.old) file.old
         (written_into (capture pin_mask extended_telemetry samples.now) file.old) }
 {
-    if FILE_SAMPLES < samples.len() {
-        return CaptureWritten::WrongLength;
+    if FILE_SAMPLES < samples.len() || file.len() != FILE_BYTES {
+        return Err(CaptureError::WrongLength);
     }
-    if file.len() != FILE_BYTES {
-        return CaptureWritten::WrongLength;
-    }
-    let at = put_number(file, 0, samples.len() as u16);
-    let at = put_number(file, at, pin_mask);
-    let at = put_number(file, at, flag(extended_telemetry));
-    CaptureWritten::Length(put_samples(file, at, samples))
+    let head = [
+        samples.len() as u16,
+        pin_mask,
+        u16::from(extended_telemetry),
+    ];
+    let at = put_numbers(file, 0, &head);
+    Ok(put_numbers(file, at, samples))
 }

@@ -1,12 +1,9 @@
--- `capture_file::file::are_samples`: the answer is whether the numbers that are left stand from the place reached on, with nothing after them.
+-- `capture_file::file::are_samples`: the answer is whether the bytes that are left are the numbers that are left.
 use mathlib.Core.Path.{◌≡◌}
-use lib.ListN.{drop}
+use Prim.Native.Nat.{◌-◌}
 use Rattle.capture_file.specs.Groups.{read_all}
 use Rattle.dshot_reply_spec.specs.Answer.{is_given}
 use Rattle.capture_file.proofs.file.are_samples.Given as goal
 
-abbrev pub invariant-loop-left : goal.invariant-loop-left
-invariant-loop-left l = is_given (read_all l.count (drop l.from l.file)) ≡ is_given (read_all l.left (drop l.at l.file))
-
-abbrev pub decreases-loop-left : goal.decreases-loop-left
-decreases-loop-left l = l.left
+abbrev pub invariant-loop : goal.invariant-loop
+invariant-loop l = is_given (read_all l.count l.bytes) ≡ is_given (read_all (l.count - l.counter) l.rest)
