@@ -1,69 +1,60 @@
 -- The definitions that say what the code's state and answers stand for are injective. So the equation of a promise determines bank and answer.
 -- Assumes nothing.
-use Rattle.std.proofs.Common.{◌≡◌, ℕ, zero, suc, Bool, true, false, eqb, List, [], ◌∷◌, map, length, get_or, drop, sym, refl, ap, ◌∙◌, arith}
-use mathlib.Core.Option.{Option, none, some}
-use Rattle.dshot_reply.proofs.Injective.{reply_answer-injective}
-use Rattle.dshot_reply.specs.Answers.{reply_answer}
+use Rattle.std.specs.Prelude.{Option, Some, None, Result, Ok, Err}
+use Rattle.std.specs.Borrow.{Bor}
+use Rattle.std.proofs.Common.{◌≡◌, ◌∙◌, sym, ℕ, zero, suc, Bool, eqb, List, [], ◌∷◌, map, length, get_or, drop, refl, ap, arith}
+use mathlib.Core.Option as Math
 use Rattle.dshot_reply_spec.proofs.Inverse.{injective}
 use Rattle.dshot_reply_spec.specs.Answer.{pick}
 use Rattle.dshot_reply_spec.specs.Answer as Reply
 use Rattle.dshot_reply_spec.specs.Value.{Reading, erpm, temp, volt, amp, debug, state, edt}
-use Rattle.dshot.proofs.Injective.{timing_of-injective}
+use Rattle.dshot_reply.proofs.Injective.{reply_answer-injective}
+use Rattle.dshot_reply.specs.Answers.{reply_answer}
+use Rattle.dshot_reply.specs.declared.DshotReply.{DshotReply}
+use Rattle.dshot_reply.specs.declared.DshotReplyError.{DshotReplyError}
+use Rattle.dshot.proofs.Injective.{timing_of-injective, run_of-injective}
 use Rattle.dshot_bank_spec.specs.State as Spec
 use Rattle.dshot_bank_spec.specs.State.{lease_of}
 use Rattle.dshot_bank_spec.specs.Service.{ServiceEvent, frame_started_event, busy, lease_expired_event, faulted}
 use Rattle.dshot_bank_spec.specs.Interrupt.{InterruptEvent, completed, spurious}
 use Rattle.dshot_bank_spec.specs.Interrupt as Spec·
 use Rattle.dshot_bank_spec.specs.Order.{Order}
-use Rattle.dshot_bank_spec.specs.Calls.{Answer, done, refused, motor_sent, serviced, interrupted, replied, flag, counts, values, reply_counts, slots}
+use Rattle.dshot_bank_spec.specs.Calls.{Answer}
 use Rattle.dshot_bank.specs.declared.DshotMotor.{DshotMotor}
 use Rattle.dshot_bank.specs.declared.DshotMotor.TheVariants.{Motor1, Motor2, Motor3, Motor4}
-use Rattle.dshot_bank.specs.declared.MotorChoice.{MotorChoice}
-use Rattle.dshot_bank.specs.declared.MotorChoice.TheVariants as Choice
 use Rattle.dshot_bank.specs.declared.MotorRun.{MotorRun}
-use Rattle.dshot_bank.specs.declared.MotorRun.TheVariants as Run
 use Rattle.dshot_bank.specs.declared.DshotStats.{DshotStats}
 use Rattle.dshot_bank.specs.declared.Core.{Core}
 use Rattle.dshot_bank.specs.declared.StoredReply.{StoredReply}
 use Rattle.dshot_bank.specs.declared.StoredReply.TheVariants as Stored
 use Rattle.dshot_bank.specs.declared.LaneReply.{LaneReply}
 use Rattle.dshot_bank.specs.declared.DshotBank.{DshotBank}
+use Rattle.dshot_bank.specs.declared.commands.DshotInitError.{DshotInitError}
 use Rattle.dshot_bank.specs.declared.commands.DshotInitError.TheVariants.{RepliesUnsupported}
+use Rattle.dshot_bank.specs.declared.commands.DshotCommandError.{DshotCommandError}
 use Rattle.dshot_bank.specs.declared.commands.DshotCommandError.TheVariants as CommandError
+use Rattle.dshot_bank.specs.declared.commands.DshotSpecialCommandError.{DshotSpecialCommandError}
 use Rattle.dshot_bank.specs.declared.commands.DshotSpecialCommandError.TheVariants as SpecialError
+use Rattle.dshot_bank.specs.declared.commands.DshotTelemetryRequestError.{DshotTelemetryRequestError}
 use Rattle.dshot_bank.specs.declared.commands.DshotTelemetryRequestError.TheVariants as RequestError
-use Rattle.dshot_bank.specs.declared.commands.Enable.{Enable}
-use Rattle.dshot_bank.specs.declared.commands.Enable.TheVariants as Enables
-use Rattle.dshot_bank.specs.declared.commands.Throttle.{Throttle}
-use Rattle.dshot_bank.specs.declared.commands.Throttle.TheVariants as Throttles
-use Rattle.dshot_bank.specs.declared.commands.Special.{Special}
-use Rattle.dshot_bank.specs.declared.commands.Special.TheVariants as Specials
-use Rattle.dshot_bank.specs.declared.commands.Request.{Request}
-use Rattle.dshot_bank.specs.declared.commands.Request.TheVariants as Requests
 use Rattle.dshot_bank.specs.declared.orders.Orders.{Orders}
 use Rattle.dshot_bank.specs.declared.service.DshotServiceEvent.{DshotServiceEvent}
 use Rattle.dshot_bank.specs.declared.service.DshotServiceEvent.TheVariants as ServiceEvents
-use Rattle.dshot_bank.specs.declared.service.Service.{Service}
-use Rattle.dshot_bank.specs.declared.service.Service.TheVariants as Services
+use Rattle.dshot_bank.specs.declared.service.ServiceError.{ServiceError}
+use Rattle.dshot_bank.specs.declared.service.ServiceError.TheVariants as ServiceErrors
 use Rattle.dshot_bank.specs.declared.interrupt.DshotInterruptEvent.{DshotInterruptEvent}
 use Rattle.dshot_bank.specs.declared.interrupt.DshotInterruptEvent.TheVariants as InterruptEvents
-use Rattle.dshot_bank.specs.declared.interrupt.Interrupt.{Interrupt}
-use Rattle.dshot_bank.specs.declared.interrupt.Interrupt.TheVariants as Interrupts
-use Rattle.dshot_bank.specs.declared.looks.View.{View}
-use Rattle.dshot_bank.specs.declared.looks.View.TheVariants as Views
-use Rattle.dshot_bank.specs.declared.replies.TakenReply.{TakenReply}
+use Rattle.dshot_bank.specs.declared.interrupt.InterruptError.{InterruptError}
+use Rattle.dshot_bank.specs.declared.interrupt.InterruptError.TheVariants as InterruptErrors
+use Rattle.dshot_bank.specs.declared.looks.ViewError.{ViewError}
+use Rattle.dshot_bank.specs.declared.looks.ViewError.TheVariants as ViewErrors
 use Rattle.dshot_bank.specs.declared.replies.DshotReplyStats.{DshotReplyStats}
-use Rattle.dshot_bank.specs.Answers.{enabled_answer, throttled_answer, special_answer, requested_answer, taken_answer, reply_stats_of}
-use Rattle.dshot_bank.specs.Views.{view_answer}
+use Rattle.dshot_bank.specs.Answers.{done_answer, init_error_number, enabled_answer, command_error_number, throttled_answer, special_error_number, special_answer, request_error_number, requested_answer, taken_answer, reply_stats_of}
+use Rattle.dshot_bank.specs.Views.{view_error_number, view_answer}
 use Rattle.dshot_bank.specs.Orders.{Just}
 use Rattle.dshot_bank.specs.Serves.{service_event_of, service_answer}
 use Rattle.dshot_bank.specs.Interrupts.{interrupt_event_of, interrupt_answer}
-use Rattle.dshot_bank.proofs.LeaseLaws.{lease-held}
-use Rattle.dshot_bank.specs.States.{motor_of, choice_of, command_sequence_of, stats_of, core_of, stored_answer, lane_reply_of, bank_of}
-
--- two constructors are not equal
-differ : {A : Type 0} → ◌≡◌ {A = ℕ} 0 1 → A
-differ z = absurd (omega arith)
+use Rattle.dshot_bank.specs.States.{motor_of, option_of, choice_of, motor_run_of, command_sequence_of, stats_of, core_of, stored_answer, lane_reply_of, bank_of}
 
 -- ---- motors, leases and runs
 
@@ -80,41 +71,36 @@ motor-back Motor4 = refl
 pub motor_of-injective : (m n : DshotMotor) → motor_of m ≡ motor_of n → m ≡ n
 motor_of-injective = injective motor_of motor_back motor-back
 
-choice_back : Option ℕ → MotorChoice
-choice_back none = Choice.None
-choice_back (some n) = Choice.Some (motor_back n)
+-- an option, by its value
+option_of-injective : {T A : Type 0} (f : T → A) → ((x y : T) → f x ≡ f y → x ≡ y) → (c d : Option T) → option_of f c ≡ option_of f d → c ≡ d
+option_of-injective f h None None e = refl
+option_of-injective f h None (Some y) e = cc
+option_of-injective f h (Some x) None e = cc
+option_of-injective f h (Some x) (Some y) e = ap Some (h x y (cc))
 
-choice-back : (c : MotorChoice) → choice_back (choice_of c) ≡ c
-unfolding choice_back
-choice-back Choice.None = refl
-choice-back (Choice.Some m) = ap Choice.Some (motor-back m)
+pub choice_of-injective : (c d : Option DshotMotor) → choice_of c ≡ choice_of d → c ≡ d
+choice_of-injective = option_of-injective motor_of motor_of-injective
 
-pub choice_of-injective : (c d : MotorChoice) → choice_of c ≡ choice_of d → c ≡ d
-choice_of-injective = injective choice_of choice_back choice-back
-
-lease_back : Option ℕ → ℕ
-lease_back none = 0
-lease_back (some n) = suc n
+lease_back : Math.Option ℕ → ℕ
+lease_back Math.none = 0
+lease_back (Math.some n) = suc n
 
 lease-back : (l : ℕ) → lease_back (lease_of l) ≡ l
 unfolding lease_back
 lease-back zero = refl
-lease-back (suc n) = ap lease_back (lease-held n (suc n) (omega arith))
+lease-back (suc n) = grind arith
 
 pub lease_of-injective : (l m : ℕ) → lease_of l ≡ lease_of m → l ≡ m
 lease_of-injective = injective lease_of lease_back lease-back
 
-run_back : Option Spec.MotorRun → MotorRun
-run_back none = Run.None
-run_back (some r) = Run.Some (motor_back r.motor) (get_or r.sequence.commands 0 0) (get_or r.sequence.commands 1 0) r.sequence.index r.sequence.repeats_left
+motor_run_of-injective : (r s : MotorRun) → motor_run_of r ≡ motor_run_of s → r ≡ s
+motor_run_of-injective r s e =
+    let motor = motor_of-injective r.motor s.motor (ap (λ (q : Spec.MotorRun). q.motor) e) in
+    let sequence = run_of-injective r.sequence s.sequence (ap (λ (q : Spec.MotorRun). q.sequence) e) in
+    λ j. record { motor = motor j; sequence = sequence j }
 
-run-back : (r : MotorRun) → run_back (command_sequence_of r) ≡ r
-unfolding run_back
-run-back Run.None = refl
-run-back (Run.Some m a b i l) = ap (λ (n : DshotMotor). Run.Some n a b i l) (motor-back m)
-
-pub command_sequence_of-injective : (r s : MotorRun) → command_sequence_of r ≡ command_sequence_of s → r ≡ s
-command_sequence_of-injective = injective command_sequence_of run_back run-back
+pub command_sequence_of-injective : (r s : Option MotorRun) → command_sequence_of r ≡ command_sequence_of s → r ≡ s
+command_sequence_of-injective = option_of-injective motor_run_of motor_run_of-injective
 
 -- ---- the bank
 
@@ -207,69 +193,54 @@ bank_of-injective a b e =
 
 -- ---- answers
 
--- the number of a refusal, and 0 for all else
-number_of : Answer → ℕ
-number_of done = 0
-number_of (refused number) = number
-number_of (motor_sent m) = 0
-number_of (serviced e o s) = 0
-number_of (interrupted e o) = 0
-number_of (replied r) = 0
-number_of (flag b) = 0
-number_of (counts c) = 0
-number_of (values v) = 0
-number_of (reply_counts r) = 0
-number_of (slots l) = 0
+-- what a command answers, by the number of its error
+done_answer-injective : {E : Type 0} (number : E → ℕ) → ((e f : E) → number e ≡ number f → e ≡ f) → (a b : Result Unit E) → done_answer number a ≡ done_answer number b → a ≡ b
+done_answer-injective number h (Ok u) (Ok v) e = refl
+done_answer-injective number h (Ok u) (Err y) e = cc
+done_answer-injective number h (Err x) (Ok v) e = cc
+done_answer-injective number h (Err x) (Err y) e = ap Err (h x y (cc))
 
-enable_back : ℕ → Enable
-enable_back n = pick (eqb n 0) Enables.Ok ((Enables.Refused RepliesUnsupported))
+init_error-injective : (e f : DshotInitError) → init_error_number e ≡ init_error_number f → e ≡ f
+init_error-injective RepliesUnsupported RepliesUnsupported e = refl
 
-enable-back : (a : Enable) → enable_back (number_of (enabled_answer a)) ≡ a
-unfolding enable_back number_of
-enable-back Enables.Ok = refl
-enable-back (Enables.Refused RepliesUnsupported) = refl
+pub enabled_answer-injective : (a b : Result Unit DshotInitError) → enabled_answer a ≡ enabled_answer b → a ≡ b
+enabled_answer-injective = done_answer-injective init_error_number init_error-injective
 
-pub enabled_answer-injective : (a b : Enable) → enabled_answer a ≡ enabled_answer b → a ≡ b
-enabled_answer-injective a b e = injective (λ (x : Enable). number_of (enabled_answer x)) enable_back enable-back a b (ap number_of e)
+command_error_back : ℕ → DshotCommandError
+command_error_back n = pick (eqb n 6) CommandError.ThrottleOutOfRange CommandError.Faulted
 
-throttle_back : ℕ → Throttle
-throttle_back n = pick (eqb n 0) Throttles.Ok (pick (eqb n 6) (Throttles.Refused CommandError.ThrottleOutOfRange) ((Throttles.Refused CommandError.Faulted)))
+command-error-back : (e : DshotCommandError) → command_error_back (command_error_number e) ≡ e
+unfolding command_error_back
+command-error-back CommandError.ThrottleOutOfRange = refl
+command-error-back CommandError.Faulted = refl
 
-throttle-back : (a : Throttle) → throttle_back (number_of (throttled_answer a)) ≡ a
-unfolding throttle_back number_of
-throttle-back Throttles.Ok = refl
-throttle-back (Throttles.Refused CommandError.ThrottleOutOfRange) = refl
-throttle-back (Throttles.Refused CommandError.Faulted) = refl
+pub throttled_answer-injective : (a b : Result Unit DshotCommandError) → throttled_answer a ≡ throttled_answer b → a ≡ b
+throttled_answer-injective = done_answer-injective command_error_number (injective command_error_number command_error_back command-error-back)
 
-pub throttled_answer-injective : (a b : Throttle) → throttled_answer a ≡ throttled_answer b → a ≡ b
-throttled_answer-injective a b e = injective (λ (x : Throttle). number_of (throttled_answer x)) throttle_back throttle-back a b (ap number_of e)
+special_error_back : ℕ → DshotSpecialCommandError
+special_error_back n = pick (eqb n 12) SpecialError.NoSuchMotor (pick (eqb n 18) SpecialError.Faulted (pick (eqb n 19) SpecialError.MotorsRunning SpecialError.CommandPending))
 
-special_back : ℕ → Special
-special_back n = pick (eqb n 0) Specials.Ok (pick (eqb n 12) Specials.NoSuchMotor (pick (eqb n 18) (Specials.Refused SpecialError.Faulted) (pick (eqb n 19) (Specials.Refused SpecialError.MotorsRunning) ((Specials.Refused SpecialError.CommandPending)))))
+special-error-back : (e : DshotSpecialCommandError) → special_error_back (special_error_number e) ≡ e
+unfolding special_error_back
+special-error-back SpecialError.NoSuchMotor = refl
+special-error-back SpecialError.Faulted = refl
+special-error-back SpecialError.MotorsRunning = refl
+special-error-back SpecialError.CommandPending = refl
 
-special-back : (a : Special) → special_back (number_of (special_answer a)) ≡ a
-unfolding special_back number_of
-special-back Specials.Ok = refl
-special-back Specials.NoSuchMotor = refl
-special-back (Specials.Refused SpecialError.Faulted) = refl
-special-back (Specials.Refused SpecialError.MotorsRunning) = refl
-special-back (Specials.Refused SpecialError.CommandPending) = refl
+pub special_answer-injective : (a b : Result Unit DshotSpecialCommandError) → special_answer a ≡ special_answer b → a ≡ b
+special_answer-injective = done_answer-injective special_error_number (injective special_error_number special_error_back special-error-back)
 
-pub special_answer-injective : (a b : Special) → special_answer a ≡ special_answer b → a ≡ b
-special_answer-injective a b e = injective (λ (x : Special). number_of (special_answer x)) special_back special-back a b (ap number_of e)
+request_error_back : ℕ → DshotTelemetryRequestError
+request_error_back n = pick (eqb n 12) RequestError.NoSuchMotor (pick (eqb n 18) RequestError.Faulted RequestError.Busy)
 
-request_back : ℕ → Request
-request_back n = pick (eqb n 0) Requests.Ok (pick (eqb n 12) Requests.NoSuchMotor (pick (eqb n 18) (Requests.Refused RequestError.Faulted) ((Requests.Refused RequestError.Busy))))
+request-error-back : (e : DshotTelemetryRequestError) → request_error_back (request_error_number e) ≡ e
+unfolding request_error_back
+request-error-back RequestError.NoSuchMotor = refl
+request-error-back RequestError.Faulted = refl
+request-error-back RequestError.Busy = refl
 
-request-back : (a : Request) → request_back (number_of (requested_answer a)) ≡ a
-unfolding request_back number_of
-request-back Requests.Ok = refl
-request-back Requests.NoSuchMotor = refl
-request-back (Requests.Refused RequestError.Faulted) = refl
-request-back (Requests.Refused RequestError.Busy) = refl
-
-pub requested_answer-injective : (a b : Request) → requested_answer a ≡ requested_answer b → a ≡ b
-requested_answer-injective a b e = injective (λ (x : Request). number_of (requested_answer x)) request_back request-back a b (ap number_of e)
+pub requested_answer-injective : (a b : Result Unit DshotTelemetryRequestError) → requested_answer a ≡ requested_answer b → a ≡ b
+requested_answer-injective = done_answer-injective request_error_number (injective request_error_number request_error_back request-error-back)
 
 service_event_back : ServiceEvent → DshotServiceEvent
 service_event_back frame_started_event = ServiceEvents.FrameStarted
@@ -284,11 +255,11 @@ service-event-back ServiceEvents.Busy = refl
 service-event-back ServiceEvents.LeaseExpired = refl
 service-event-back ServiceEvents.Faulted = refl
 
-pub service_answer-injective : (a b : Service) (l m : List Order) (u v : List Bool) → service_answer a l u ≡ service_answer b m v → a ≡ b
-service_answer-injective (Services.Event e) (Services.Event f) l m u v h = ap Services.Event (injective service_event_of service_event_back service-event-back e f (cc))
-service_answer-injective (Services.Event e) Services.WrongLength l m u v h = differ (cc)
-service_answer-injective Services.WrongLength (Services.Event f) l m u v h = differ (cc)
-service_answer-injective Services.WrongLength Services.WrongLength l m u v h = refl
+pub service_answer-injective : (a b : Result DshotServiceEvent ServiceError) (l m : List Order) (u v : List Bool) → service_answer a l u ≡ service_answer b m v → a ≡ b
+service_answer-injective (Ok e) (Ok f) l m u v h = ap Ok (injective service_event_of service_event_back service-event-back e f (cc))
+service_answer-injective (Ok e) (Err y) l m u v h = cc
+service_answer-injective (Err x) (Ok f) l m u v h = cc
+service_answer-injective (Err ServiceErrors.WrongLength) (Err ServiceErrors.WrongLength) l m u v h = refl
 
 interrupt_event_back : InterruptEvent → DshotInterruptEvent
 interrupt_event_back completed = InterruptEvents.Completed
@@ -301,35 +272,38 @@ interrupt-event-back InterruptEvents.Completed = refl
 interrupt-event-back InterruptEvents.Faulted = refl
 interrupt-event-back InterruptEvents.Spurious = refl
 
-pub interrupt_answer-injective : (a b : Interrupt) (l m : List Order) → interrupt_answer a l ≡ interrupt_answer b m → a ≡ b
-interrupt_answer-injective (Interrupts.Event e) (Interrupts.Event f) l m h = ap Interrupts.Event (injective interrupt_event_of interrupt_event_back interrupt-event-back e f (cc))
-interrupt_answer-injective (Interrupts.Event e) Interrupts.NoSuchMotor l m h = differ (cc)
-interrupt_answer-injective Interrupts.NoSuchMotor (Interrupts.Event f) l m h = differ (cc)
-interrupt_answer-injective Interrupts.NoSuchMotor Interrupts.NoSuchMotor l m h = refl
+pub interrupt_answer-injective : (a b : Result DshotInterruptEvent InterruptError) (l m : List Order) → interrupt_answer a l ≡ interrupt_answer b m → a ≡ b
+interrupt_answer-injective (Ok e) (Ok f) l m h = ap Ok (injective interrupt_event_of interrupt_event_back interrupt-event-back e f (cc))
+interrupt_answer-injective (Ok e) (Err y) l m h = cc
+interrupt_answer-injective (Err x) (Ok f) l m h = cc
+interrupt_answer-injective (Err InterruptErrors.NoSuchMotor) (Err InterruptErrors.NoSuchMotor) l m h = refl
 
 -- ---- what is looked at, and the replies
 
-pub view_answer-injective : (a b : View) (l m : List ℕ) → view_answer a l ≡ view_answer b m → a ≡ b
-unfolding number_of
-view_answer-injective Views.Shown Views.Shown l m h = refl
-view_answer-injective Views.Shown Views.WrongLength l m h = differ (cc)
-view_answer-injective Views.Shown Views.NoSuchMotor l m h = differ (cc)
-view_answer-injective Views.WrongLength Views.Shown l m h = differ (cc)
-view_answer-injective Views.WrongLength Views.WrongLength l m h = refl
-view_answer-injective Views.WrongLength Views.NoSuchMotor l m h = absurd (omega (arith, ap number_of h))
-view_answer-injective Views.NoSuchMotor Views.Shown l m h = differ (cc)
-view_answer-injective Views.NoSuchMotor Views.WrongLength l m h = absurd (omega (arith, ap number_of h))
-view_answer-injective Views.NoSuchMotor Views.NoSuchMotor l m h = refl
+-- what a view shows, wherever it lies
+abbrev pub seen : Result (Bor (List ℕ)) ViewError → Result (List ℕ) ViewError
+seen (Ok part) = Ok part.now
+seen (Err error) = Err error
 
-taken-injective : (a b : TakenReply) → reply_answer a.reply ≡ reply_answer b.reply → a ≡ b
-taken-injective a b h = λ j. record { reply = reply_answer-injective a.reply b.reply h j }
+view_error_back : ℕ → ViewError
+view_error_back n = pick (eqb n 12) ViewErrors.NoSuchMotor ViewErrors.WrongLength
 
--- replies that are held; if none are, `take_replies` promises what stands in their place
-pub taken_answer-injective : (l m : List TakenReply) → taken_answer true l ≡ taken_answer true m → l ≡ m
-taken_answer-injective l m h = map_injective (λ (t : TakenReply). reply_answer t.reply) taken-injective l m (cc)
+view-error-back : (e : ViewError) → view_error_back (view_error_number e) ≡ e
+unfolding view_error_back
+view-error-back ViewErrors.WrongLength = refl
+view-error-back ViewErrors.NoSuchMotor = refl
 
-pub taken-or-not : (l m : List TakenReply) → taken_answer true l ≡ taken_answer false m → ⊥
-taken-or-not l m h = differ (cc)
+pub view_answer-injective : (a b : Result (Bor (List ℕ)) ViewError) → view_answer a ≡ view_answer b → seen a ≡ seen b
+view_answer-injective (Ok p) (Ok q) h = ap Ok (cc)
+view_answer-injective (Ok p) (Err y) h = cc
+view_answer-injective (Err x) (Ok q) h = cc
+view_answer-injective (Err x) (Err y) h = ap Err (injective view_error_number view_error_back view-error-back x y (cc))
+
+pub taken_answer-injective : (a b : Option (List (Result DshotReply DshotReplyError))) → taken_answer a ≡ taken_answer b → a ≡ b
+taken_answer-injective a b h = option_of-injective (map reply_answer) (map_injective reply_answer reply_answer-injective) a b (cc)
+
+pub taken-or-not : (l : List (Result DshotReply DshotReplyError)) → taken_answer (Some l) ≡ taken_answer None → ⊥
+taken-or-not l h = cc
 
 pub reply_stats_of-injective : (a b : DshotReplyStats) → reply_stats_of a ≡ reply_stats_of b → a ≡ b
 reply_stats_of-injective a b h = λ j. record { valid = (h j).valid; invalid = (h j).invalid; consecutive_invalid = (h j).consecutive_invalid }

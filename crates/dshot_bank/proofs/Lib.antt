@@ -1,7 +1,4 @@
-pub mod StepLaws
-pub mod LeaseLaws
-pub mod SendLaws
-pub mod OrderLaws
-pub mod InterruptLaws
-pub mod ReplyLaws
 pub mod Injective
+pub mod LaneTests
+pub mod OrderLaws
+pub mod ReplyLaws

@@ -1,20 +1,19 @@
 -- What the code's orders mean in the terms of the definitions. They are one number, with seven bits for each order, and the first duties beside it.
 -- Stands for the calls of the Rust's trait `DshotLanes`.
 -- Assumes nothing.
-use Rattle.std.specs.Prelude.{◌≡◌, ℕ, zero, suc, ◌+◌, ◌-◌, ◌*◌, ◌/◌, ◌%◌, List, [], ◌∷◌, ◌++◌, length, ◌==◌, if◌then◌else◌}
+use Rattle.std.specs.Prelude.{◌≡◌, ℕ, zero, suc, ◌+◌, ◌-◌, ◌*◌, ◌/◌, ◌%◌, List, [], ◌∷◌, ◌++◌, length, Option, Some, None, option_map, ◌==◌, if◌then◌else◌}
 use Rattle.dshot_bank_spec.specs.Order.{exchange_buffer, start_dma, start_frame, stop_frame, force_outputs_low, pause_and_clear, begin_receive, end_receive}
 use Rattle.dshot_bank_spec.specs.Order as Spec
 use Rattle.dshot_bank_spec.specs.OrderNumber.{code, duties_in}
 use Rattle.dshot_bank_spec.specs.Calls.{Answer, done, refused, motor_sent, serviced, interrupted, replied, flag, counts, values, reply_counts, slots}
 use Rattle.dshot_bank.specs.declared.DshotMotor.{DshotMotor}
 use Rattle.dshot_bank.specs.declared.orders.OrderKind.{OrderKind}
-use Rattle.dshot_bank.specs.declared.orders.OrderKind.TheVariants.{None, ExchangeBuffer, StartDma, StartFrame, StopFrame, ForceOutputsLow, PauseAndClear, BeginReceive, EndReceive}
+use Rattle.dshot_bank.specs.declared.orders.OrderKind.TheVariants.{ExchangeBuffer, StartDma, StartFrame, StopFrame, ForceOutputsLow, PauseAndClear, BeginReceive, EndReceive}
 use Rattle.dshot_bank.specs.declared.orders.Order.{Order}
 use Rattle.dshot_bank.specs.declared.orders.Orders.{Orders}
 use Rattle.dshot_bank.specs.States.{motor_of}
 
 abbrev pub kind_number : OrderKind → ℕ
-kind_number None = 0
 kind_number ExchangeBuffer = 1
 kind_number StartDma = 2
 kind_number StartFrame = 3
@@ -45,45 +44,49 @@ Begins o motor = o ≡ held (pause_and_clear (motor_of motor) ∷ [])
 -- ---- from numbers back to orders
 
 -- the kind with a number
-abbrev pub kind_at : ℕ → OrderKind
+abbrev pub kind_at : ℕ → Option OrderKind
 kind_at n =
-    if n == 1 then ExchangeBuffer else
-    if n == 2 then StartDma else
-    if n == 3 then StartFrame else
-    if n == 4 then StopFrame else
-    if n == 5 then ForceOutputsLow else
-    if n == 6 then PauseAndClear else
-    if n == 7 then BeginReceive else
-    if n == 8 then EndReceive else
+    if n == 1 then Some ExchangeBuffer else
+    if n == 2 then Some StartDma else
+    if n == 3 then Some StartFrame else
+    if n == 4 then Some StopFrame else
+    if n == 5 then Some ForceOutputsLow else
+    if n == 6 then Some PauseAndClear else
+    if n == 7 then Some BeginReceive else
+    if n == 8 then Some EndReceive else
     None
 
--- the order in the lowest seven bits
-abbrev pub entry_in : ℕ → Order
-entry_in codes = record { kind = kind_at (codes % 128 / 8); motor = codes % 128 % 8 }
+-- the order with a number
+abbrev pub entry_of : ℕ → Option Order
+entry_of n = option_map (λ (k : OrderKind). record { kind = k; motor = n % 8 }) (kind_at (n / 8))
 
 -- the first order; `rest_orders` are those after it
-abbrev pub first_order : Orders → Order
-first_order o = if o.count == 0 then record { kind = None; motor = 0 } else entry_in o.codes
+abbrev pub first_order : Orders → Option Order
+first_order o = if o.count == 0 then None else entry_of (o.codes % 128)
 
 abbrev pub rest_orders : Orders → Orders
 rest_orders o = if o.count == 0 then o else record { count = o.count - 1; codes = o.codes / 128 }
 
 -- an order by its kind and lane, with the first duties
-abbrev pub order_of : List ℕ → OrderKind → ℕ → List Spec.Order
-order_of d None m = []
-order_of d ExchangeBuffer m = exchange_buffer m ∷ []
-order_of d StartDma m = start_dma m ∷ []
-order_of d StartFrame m = start_frame d ∷ []
-order_of d StopFrame m = stop_frame ∷ []
-order_of d ForceOutputsLow m = force_outputs_low ∷ []
-order_of d PauseAndClear m = pause_and_clear m ∷ []
-order_of d BeginReceive m = begin_receive ∷ []
-order_of d EndReceive m = end_receive ∷ []
+abbrev pub order_of : List ℕ → OrderKind → ℕ → Spec.Order
+order_of d ExchangeBuffer m = exchange_buffer m
+order_of d StartDma m = start_dma m
+order_of d StartFrame m = start_frame d
+order_of d StopFrame m = stop_frame
+order_of d ForceOutputsLow m = force_outputs_low
+order_of d PauseAndClear m = pause_and_clear m
+order_of d BeginReceive m = begin_receive
+order_of d EndReceive m = end_receive
+
+-- an order, if there is one
+abbrev pub entry_orders : List ℕ → Option Order → List Spec.Order
+entry_orders d None = []
+entry_orders d (Some o) = order_of d o.kind o.motor ∷ []
 
 -- the first n orders of a number
 abbrev pub orders_from : List ℕ → ℕ → ℕ → List Spec.Order
 orders_from d zero codes = []
-orders_from d (suc n) codes = order_of d (entry_in codes).kind (entry_in codes).motor ++ orders_from d n (codes / 128)
+orders_from d (suc n) codes = entry_orders d (entry_of (codes % 128)) ++ orders_from d n (codes / 128)
 
 -- the list of orders that a number and the first duties beside it stand for
 unfoldable pub orders_of : Orders → List ℕ → List Spec.Order

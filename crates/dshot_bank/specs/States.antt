@@ -1,23 +1,21 @@
 -- What the code's state means in the terms of the definitions. Stands for `DshotBank` of the Rust's dshot_bank.rs.
 -- Assumes nothing.
-use Rattle.std.specs.Prelude.{ℕ, List, [], ◌∷◌, map, nat_lt, if◌then◌else◌}
+use Rattle.std.specs.Prelude.{ℕ, List, map, nat_lt, if◌then◌else◌}
+use Rattle.std.specs.Prelude as Std
 use Rattle.std.proofs.Math.Option.{Option, none, some}
 use Rattle.dshot_reply_spec.specs.Answer as Reply
 use Rattle.dshot_reply_spec.specs.Answer.{given, refused}
 use Rattle.dshot_reply_spec.specs.Refusals.{no_reply, overlong, invalid_symbol, wrong_checksum, zero_period}
 use Rattle.dshot_reply_spec.specs.Value.{Reading, erpm, temp, volt, amp, debug, state, edt}
-use Rattle.dshot.specs.Answers.{timing_of}
+use Rattle.dshot.specs.Answers.{timing_of, run_of}
 use Rattle.dshot_bank_spec.specs.State.{Buffers, lease_of}
 use Rattle.dshot_bank_spec.specs.State as Spec
 use Rattle.dshot_bank_spec.specs.Calls.{State, Answer, Stepped}
 use Rattle.dshot_bank.specs.declared.DshotMotor.{DshotMotor}
 use Rattle.dshot_bank.specs.declared.DshotMotor.TheVariants.{Motor1, Motor2, Motor3, Motor4}
-use Rattle.dshot_bank.specs.declared.MotorChoice.{MotorChoice}
-use Rattle.dshot_bank.specs.declared.MotorChoice.TheVariants as MotorChoice·
 use Rattle.dshot_bank.specs.declared.DshotStats.{DshotStats}
 use Rattle.dshot_bank.specs.declared.Demand.{Demand}
 use Rattle.dshot_bank.specs.declared.MotorRun.{MotorRun}
-use Rattle.dshot_bank.specs.declared.MotorRun.TheVariants as MotorRun·
 use Rattle.dshot_bank.specs.declared.Requests.{Requests}
 use Rattle.dshot_bank.specs.declared.Frame.{Frame}
 use Rattle.dshot_bank.specs.declared.Core.{Core}
@@ -33,10 +31,14 @@ motor_of Motor2 = 1
 motor_of Motor3 = 2
 motor_of Motor4 = 3
 
+-- an `Option`, by the meaning of its value
+abbrev pub option_of : {T A : Type 0} → (T → A) → Std.Option T → Option A
+option_of meaning Std.None = none
+option_of meaning (Std.Some value) = some (meaning value)
+
 -- the Rust's `Option<DshotMotor>`
-abbrev pub choice_of : MotorChoice → Option ℕ
-choice_of MotorChoice·.None = none
-choice_of (MotorChoice·.Some m) = some (motor_of m)
+abbrev pub choice_of : Std.Option DshotMotor → Option ℕ
+choice_of = option_of motor_of
 
 -- the motor of a lane; there are four
 abbrev pub motor_at : ℕ → Option ℕ
@@ -48,10 +50,12 @@ demand_of d = record { requested_values = d.requested_values; lease_started_ms =
 abbrev pub telemetry_of : Requests → Spec.Telemetry
 telemetry_of r = record { request = choice_of r.telemetry_request; request_sent = choice_of r.telemetry_request_sent }
 
+abbrev pub motor_run_of : MotorRun → Spec.MotorRun
+motor_run_of r = record { motor = motor_of r.motor; sequence = run_of r.sequence }
+
 -- the Rust's `Option<(DshotMotor, DshotCommandSequence)>`
-abbrev pub command_sequence_of : MotorRun → Option Spec.MotorRun
-command_sequence_of MotorRun·.None = none
-command_sequence_of (MotorRun·.Some m first second i left) = some (record { motor = motor_of m; sequence = record { commands = first ∷ second ∷ []; index = i; repeats_left = left } })
+abbrev pub command_sequence_of : Std.Option MotorRun → Option Spec.MotorRun
+command_sequence_of = option_of motor_run_of
 
 abbrev pub frame_of : Frame → Spec.Frame
 frame_of f = record {

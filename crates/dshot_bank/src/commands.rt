@@ -3,40 +3,41 @@
 //
 // The calls that command a bank: demands, runs of special commands, and telemetry requests.
 
-ghost use Rattle.std.specs.Prelude.{◌≡◌, nat_lt};
-ghost use Rattle.std.proofs.Math.Option.{some};
+ghost use Rattle.std.specs.Prelude.{◌≡◌, ℕ, nat_lt, replicate};
+ghost use Rattle.std.specs.List.{list_any};
+ghost use Rattle.dshot_reply.specs.Answers.{answer};
+ghost use Rattle.dshot_reply.specs.Refusals.{refusal_number};
 ghost use Rattle.dshot.specs.Answers.{run_of};
-ghost use Rattle.dshot_bank_spec.specs.Lanes.{any, is_some};
 ghost use Rattle.dshot_bank_spec.specs.State.{Buffers};
 ghost use Rattle.dshot_bank_spec.specs.State as Spec;
-ghost use Rattle.dshot_bank_spec.specs.Commands.{any_requested, is_running, command_stop, command_throttles, clear_request_sent};
+ghost use Rattle.dshot_bank_spec.specs.Commands.{any_requested, is_running, command_throttles, command_special, request_telemetry};
 ghost use Rattle.dshot_bank_spec.specs.With.{with_demand};
 ghost use Rattle.dshot_bank_spec.specs.Calls as Call;
-ghost use Rattle.dshot_bank_spec.specs.Calls.{State, done, motor_sent, changed, commanded};
+ghost use Rattle.dshot_bank_spec.specs.Calls.{done, motor_sent, commanded};
 ghost use Rattle.dshot_bank_spec.specs.Steps.{step};
-ghost use Rattle.dshot_bank.specs.declared.MotorChoice.TheVariants as MotorChoice·;
-ghost use Rattle.dshot_bank.specs.States.{motor_of, choice_of, demand_of, command_sequence_of, core_of, state_of, stepped};
-ghost use Rattle.dshot_bank.specs.Answers.{enabled_answer, throttled_answer, special_answer, requested_answer};
+ghost use Rattle.dshot_bank.specs.States.{motor_of, choice_of, demand_of, core_of, state_of, stepped};
+ghost use Rattle.dshot_bank.specs.Answers.{init_error_number, command_error_number, special_error_number, request_error_number, done_answer, enabled_answer, throttled_answer, special_answer, requested_answer};
 
-use crate::{
-    Core, DSHOT_COMMAND_MAX, Demand, DshotBank, DshotMotor, LANES, MotorChoice, MotorRun, Requests,
-};
+use crate::{Core, DSHOT_COMMAND_MAX, Demand, DshotBank, DshotMotor, LANES, MotorRun};
 use dshot::{DshotCommandSequence, MotorValues, throttles_to_dshot};
+use dshot_reply::refusals::Refusal;
 
-#[derive(Clone, Copy)]
+#[derive(Clone, Copy, Debug, PartialEq, Eq)]
 pub enum DshotInitError {
     // Bidirectional DShot was asked for, but a lane cannot receive replies.
     RepliesUnsupported,
 }
 
-#[derive(Clone, Copy)]
+#[derive(Clone, Copy, Debug, PartialEq, Eq)]
 pub enum DshotCommandError {
     ThrottleOutOfRange,
     Faulted,
 }
 
-#[derive(Clone, Copy)]
+#[derive(Clone, Copy, Debug, PartialEq, Eq)]
 pub enum DshotSpecialCommandError {
+    // The lane is above 3.
+    NoSuchMotor,
     Faulted,
     // A special command needs every motor stopped and no command lease.
     MotorsRunning,
@@ -44,91 +45,88 @@ pub enum DshotSpecialCommandError {
     CommandPending,
 }
 
-#[derive(Clone, Copy)]
+#[derive(Clone, Copy, Debug, PartialEq, Eq)]
 pub enum DshotTelemetryRequestError {
+    // The lane is above 3.
+    NoSuchMotor,
     Busy,
     Faulted,
 }
 
-// What `enable_bidirectional` answers.
-#[derive(Clone, Copy)]
-pub enum Enable {
-    Ok,
-    Refused(DshotInitError),
+impl From<DshotInitError> for Refusal {
+    ghost from_gives = { λ e r. refusal_number r ≡ init_error_number e };
+
+    fn from(error: DshotInitError) -> Refusal {
+        match error {
+            DshotInitError::RepliesUnsupported => Refusal::RepliesUnsupported,
+        }
+    }
 }
 
-// What `command_throttles` answers.
-#[derive(Clone, Copy)]
-pub enum Throttle {
-    Ok,
-    Refused(DshotCommandError),
+impl From<DshotCommandError> for Refusal {
+    ghost from_gives = { λ e r. refusal_number r ≡ command_error_number e };
+
+    fn from(error: DshotCommandError) -> Refusal {
+        match error {
+            DshotCommandError::ThrottleOutOfRange => Refusal::ThrottleOutOfRange,
+            DshotCommandError::Faulted => Refusal::BankFaulted,
+        }
+    }
 }
 
-// What `command_special` answers. If the lane is above 3, there is no such motor.
-#[derive(Clone, Copy)]
-pub enum Special {
-    Ok,
-    NoSuchMotor,
-    Refused(DshotSpecialCommandError),
+impl From<DshotSpecialCommandError> for Refusal {
+    ghost from_gives = { λ e r. refusal_number r ≡ special_error_number e };
+
+    fn from(error: DshotSpecialCommandError) -> Refusal {
+        match error {
+            DshotSpecialCommandError::NoSuchMotor => Refusal::NoSuchMotor,
+            DshotSpecialCommandError::Faulted => Refusal::BankFaulted,
+            DshotSpecialCommandError::MotorsRunning => Refusal::MotorsRunning,
+            DshotSpecialCommandError::CommandPending => Refusal::CommandPending,
+        }
+    }
 }
 
-// What `request_telemetry` answers.
-#[derive(Clone, Copy)]
-pub enum Request {
-    Ok,
-    NoSuchMotor,
-    Refused(DshotTelemetryRequestError),
+impl From<DshotTelemetryRequestError> for Refusal {
+    ghost from_gives = { λ e r. refusal_number r ≡ request_error_number e };
+
+    fn from(error: DshotTelemetryRequestError) -> Refusal {
+        match error {
+            DshotTelemetryRequestError::NoSuchMotor => Refusal::NoSuchMotor,
+            DshotTelemetryRequestError::Busy => Refusal::TelemetryPending,
+            DshotTelemetryRequestError::Faulted => Refusal::BankFaulted,
+        }
+    }
 }
 
-// Each answer, with the bank after it.
+// What a command answers, with the bank after it.
 #[derive(Clone, Copy)]
-pub struct Enabled {
-    pub answer: Enable,
+pub struct Commanded<E> {
+    pub answer: Result<(), E>,
     pub bank: DshotBank,
 }
 
-#[derive(Clone, Copy)]
-pub struct Throttled {
-    pub answer: Throttle,
-    pub bank: DshotBank,
-}
+pub type Enabled = Commanded<DshotInitError>;
 
-#[derive(Clone, Copy)]
-pub struct Queued {
-    pub answer: Special,
-    pub bank: DshotBank,
-}
+pub type Throttled = Commanded<DshotCommandError>;
 
-#[derive(Clone, Copy)]
-pub struct Requested {
-    pub answer: Request,
-    pub bank: DshotBank,
-}
+pub type Queued = Commanded<DshotSpecialCommandError>;
+
+pub type Requested = Commanded<DshotTelemetryRequestError>;
 
 #[derive(Clone, Copy)]
 pub struct SentTaken {
-    pub motor: MotorChoice,
+    pub motor: Option<DshotMotor>,
     pub bank: DshotBank,
 }
 
-// An answer of `command_throttles`, with the demand after it.
-#[derive(Clone, Copy)]
-struct Demanded {
-    answer: Throttle,
-    demand: Demand,
-}
-
 fn any_above(values: MotorValues, most: u16) -> bool
-    ensures { result ≡ any (nat_lt most) values }
+    ensures { result ≡ list_any (nat_lt most) values }
 {
-    for lane in 0..LANES {
-        if values[lane] > most {
-            return true;
-        }
-    }
-    false
+    values.iter().any(|value| *value > most)
 }
 
+#[tactic(auto, using(crate::proofs::LaneTests::any_is))]
 pub(crate) fn any_requested(values: MotorValues) -> bool
     ensures { result ≡ any_requested values }
 {
@@ -139,182 +137,129 @@ impl Demand {
     fn is_running(self) -> bool
         ensures { result ≡ is_running (demand_of self) }
     {
-        if self.lease_over_after_ms != 0 {
-            return true;
-        }
-        let values = self.requested_values;
-        any_requested(values)
+        self.lease_over_after_ms != 0 || any_requested(self.requested_values)
     }
 
-    fn stopped(self) -> Self
-        ensures { (k : Spec.Core) → k.demand ≡ demand_of self → with_demand (demand_of result) k ≡ command_stop 4 k }
+    pub(crate) fn stopped(self) -> Self
+        ensures { result ≡ record { requested_values = replicate 4 0; lease_started_ms = self.lease_started_ms; lease_over_after_ms = 0 } }
     {
         Demand {
             requested_values: [0; LANES],
-            lease_started_ms: self.lease_started_ms,
             lease_over_after_ms: 0,
+            ..self
         }
     }
 
     // What `command_throttles` does to the demand of a bank.
+    #[tactic(auto, using(crate::proofs::LaneTests::any_is), unfolding(dshot_bank_spec::specs::Commands::command_throttles, dshot_bank_spec::specs::Commands::command_stop))]
     fn throttled(
         self,
         faulted: bool,
         commands: MotorValues,
         now_ms: u64,
         lease_duration_ms: u32,
-    ) -> Demanded
-        ensures { (s : State) → s.bank.core.demand ≡ demand_of self → s.bank.core.frame.faulted ≡ faulted → changed s (throttled_answer result.answer) (with_demand (demand_of result.demand) s.bank.core) ≡ commanded s (command_throttles 4 commands now_ms lease_duration_ms s.bank.core) }
+    ) -> Result<Self, DshotCommandError>
+        ensures { (k : Spec.Core) → k.demand ≡ demand_of self → k.frame.faulted ≡ faulted → answer (λ d. with_demand (demand_of d) k) command_error_number result ≡ command_throttles 4 commands now_ms lease_duration_ms k }
     {
         if faulted {
-            return Demanded {
-                answer: Throttle::Refused(DshotCommandError::Faulted),
-                demand: self,
-            };
+            return Err(DshotCommandError::Faulted);
         }
         if any_above(commands, DSHOT_COMMAND_MAX) {
-            return Demanded {
-                answer: Throttle::Refused(DshotCommandError::ThrottleOutOfRange),
-                demand: self,
-            };
+            return Err(DshotCommandError::ThrottleOutOfRange);
         }
         if !any_requested(commands) {
-            return Demanded {
-                answer: Throttle::Ok,
-                demand: self.stopped(),
-            };
+            return Ok(self.stopped());
         }
-        let lease_over_after_ms = lease_duration_ms as u64 + 1;
-        let demand = Demand {
+        Ok(Demand {
             requested_values: throttles_to_dshot(commands),
             lease_started_ms: now_ms,
-            lease_over_after_ms,
-        };
-        Demanded {
-            answer: Throttle::Ok,
-            demand,
-        }
-    }
-}
-
-impl MotorChoice {
-    pub(crate) fn is_some(self) -> bool
-        ensures { result ≡ is_some (choice_of self) }
-    {
-        match self {
-            MotorChoice::Some(_) => true,
-            MotorChoice::None => false,
-        }
-    }
-}
-
-impl MotorRun {
-    pub(crate) fn of(motor: DshotMotor, sequence: DshotCommandSequence) -> Self
-        ensures { command_sequence_of result ≡ some (record { motor = motor_of motor; sequence = run_of sequence }) }
-    {
-        let commands = sequence.commands;
-        MotorRun::Some {
-            motor,
-            first: commands[0],
-            second: commands[1],
-            index: sequence.index,
-            repeats_left: sequence.repeats_left,
-        }
-    }
-
-    pub(crate) fn is_some(self) -> bool
-        ensures { result ≡ is_some (command_sequence_of self) }
-    {
-        match self {
-            MotorRun::Some { .. } => true,
-            MotorRun::None => false,
-        }
-    }
-}
-
-impl Requests {
-    // The bank with another telemetry request.
-    fn requesting(self, motor: MotorChoice) -> Self
-        ensures { result ≡ record { telemetry_request = motor; telemetry_request_sent = self.telemetry_request_sent; command_sequence = self.command_sequence } }
-    {
-        let sent = self.telemetry_request_sent;
-        let run = self.command_sequence;
-        Requests {
-            telemetry_request: motor,
-            telemetry_request_sent: sent,
-            command_sequence: run,
-        }
-    }
-
-    // The bank with another run.
-    pub(crate) fn running(self, run: MotorRun) -> Self
-        ensures { result ≡ record { telemetry_request = self.telemetry_request; telemetry_request_sent = self.telemetry_request_sent; command_sequence = run } }
-    {
-        let request = self.telemetry_request;
-        let sent = self.telemetry_request_sent;
-        Requests {
-            telemetry_request: request,
-            telemetry_request_sent: sent,
-            command_sequence: run,
-        }
-    }
-
-    // The bank with no request sent.
-    fn unsent(self) -> Self
-        ensures { result ≡ record { telemetry_request = self.telemetry_request; telemetry_request_sent = MotorChoice·.None; command_sequence = self.command_sequence } }
-    {
-        let request = self.telemetry_request;
-        let run = self.command_sequence;
-        Requests {
-            telemetry_request: request,
-            telemetry_request_sent: MotorChoice::None,
-            command_sequence: run,
-        }
+            lease_over_after_ms: u64::from(lease_duration_ms) + 1,
+        })
     }
 }
 
 impl Core {
-    pub(crate) fn stopped(mut self) -> Self
-        ensures { core_of result ≡ command_stop 4 (core_of self) }
+    #[tactic(auto, unfolding(dshot_bank_spec::specs::Commands::command_special))]
+    fn queued(
+        mut self,
+        motor: DshotMotor,
+        sequence: DshotCommandSequence,
+    ) -> Result<Self, DshotSpecialCommandError>
+        ensures { answer core_of special_error_number result ≡ command_special (motor_of motor) (run_of sequence) (core_of self) }
     {
-        let demand = self.demand.stopped();
-        self.demand = demand;
-        self
+        if self.frame.faulted {
+            return Err(DshotSpecialCommandError::Faulted);
+        }
+        if self.demand.is_running() {
+            return Err(DshotSpecialCommandError::MotorsRunning);
+        }
+        if self.requests.command_sequence.is_some() {
+            return Err(DshotSpecialCommandError::CommandPending);
+        }
+        self.requests.command_sequence = Some(MotorRun { motor, sequence });
+        Ok(self)
     }
 
-    pub(crate) fn sent_cleared(mut self) -> Self
-        ensures { core_of result ≡ clear_request_sent (core_of self) }
+    #[tactic(auto, unfolding(dshot_bank_spec::specs::Commands::request_telemetry))]
+    fn requested(mut self, motor: DshotMotor) -> Result<Self, DshotTelemetryRequestError>
+        ensures { answer core_of request_error_number result ≡ request_telemetry (motor_of motor) (core_of self) }
     {
-        let requests = self.requests.unsent();
-        self.requests = requests;
-        self
+        if self.frame.faulted {
+            return Err(DshotTelemetryRequestError::Faulted);
+        }
+        if self.requests.telemetry_request.is_some() {
+            return Err(DshotTelemetryRequestError::Busy);
+        }
+        self.requests.telemetry_request = Some(motor);
+        Ok(self)
     }
 }
 
+#[tactic(auto, unfolding(dshot_bank_spec::specs::Steps::step, dshot_bank_spec::specs::Steps::port_refusal))]
 impl DshotBank {
+    // The bank with the core that a command leaves. If it is refused, the bank stays.
+    fn commanded<E: Copy>(mut self, done: Result<Core, E>) -> Commanded<E>
+        ensures { (number : E → ℕ) (b : Buffers) → stepped (done_answer number result.answer) result.bank b ≡ commanded (state_of self b) (answer core_of number done) }
+    {
+        match done {
+            Ok(core) => {
+                self.core = core;
+                Commanded {
+                    answer: Ok(()),
+                    bank: self,
+                }
+            }
+            Err(error) => Commanded {
+                answer: Err(error),
+                bank: self,
+            },
+        }
+    }
+
     // Switches to bidirectional DShot. It is meant for the time before the first frame, but a later call is not refused. Refused if a lane cannot
     // receive replies.
+    #[tactic(auto, unfolding(dshot_bank_spec::specs::Steps::step, dshot_bank_spec::specs::Steps::port_refusal, dshot_bank_spec::specs::Commands::enable_bidirectional))]
     pub fn enable_bidirectional(mut self, receives_replies: bool) -> Enabled
         ensures { (b : Buffers) → stepped (enabled_answer result.answer) result.bank b ≡ step 4 (state_of self b) (Call.enable_bidirectional_call receives_replies) }
     {
         if !receives_replies {
             return Enabled {
-                answer: Enable::Refused(DshotInitError::RepliesUnsupported),
+                answer: Err(DshotInitError::RepliesUnsupported),
                 bank: self,
             };
         }
         self.core.frame.bidirectional = true;
         Enabled {
-            answer: Enable::Ok,
+            answer: Ok(()),
             bank: self,
         }
     }
 
+    #[tactic(auto, unfolding(dshot_bank_spec::specs::Steps::step, dshot_bank_spec::specs::Steps::port_refusal, dshot_bank_spec::specs::Commands::command_stop))]
     pub fn command_stop(mut self) -> Self
         ensures { (b : Buffers) → stepped done result b ≡ step 4 (state_of self b) Call.command_stop_call }
     {
-        let core = self.core.stopped();
-        self.core = core;
+        self.core.demand = self.core.demand.stopped();
         self
     }
 
@@ -326,13 +271,19 @@ impl DshotBank {
     ) -> Throttled
         ensures { (b : Buffers) → stepped (throttled_answer result.answer) result.bank b ≡ step 4 (state_of self b) (Call.command_throttles_call commands now_ms lease_duration_ms) }
     {
-        let demand = self.core.demand;
-        let made = demand.throttled(self.core.frame.faulted, commands, now_ms, lease_duration_ms);
-        let answer = made.answer;
-        let demand = made.demand;
-        let mut core = self.core;
-        core.demand = demand;
-        self.core = core;
+        let faulted = self.core.frame.faulted;
+        let throttled = self
+            .core
+            .demand
+            .throttled(faulted, commands, now_ms, lease_duration_ms);
+        // Only the demand is handed on, and the bank is returned at one place. Otherwise the call was slower.
+        let answer = match throttled {
+            Ok(demand) => {
+                self.core.demand = demand;
+                Ok(())
+            }
+            Err(error) => Err(error),
+        };
         Throttled { answer, bank: self }
     }
 
@@ -343,45 +294,11 @@ impl DshotBank {
         ensures { (b : Buffers) → stepped (special_answer result.answer) result.bank b ≡ step 4 (state_of self b) (Call.command_special_call motor (run_of sequence)) }
     {
         match DshotMotor::from_index(motor) {
-            MotorChoice::Some(motor) => self.queue(motor, sequence),
-            MotorChoice::None => Queued {
-                answer: Special::NoSuchMotor,
+            Some(motor) => self.commanded(self.core.queued(motor, sequence)),
+            None => Queued {
+                answer: Err(DshotSpecialCommandError::NoSuchMotor),
                 bank: self,
             },
-        }
-    }
-
-    fn queue(mut self, motor: DshotMotor, sequence: DshotCommandSequence) -> Queued
-        ensures { (b : Buffers) → stepped (special_answer result.answer) result.bank b ≡ Call.act 4 (state_of self b) (Call.command_special_call (motor_of motor) (run_of sequence)) }
-    {
-        if self.core.frame.faulted {
-            return Queued {
-                answer: Special::Refused(DshotSpecialCommandError::Faulted),
-                bank: self,
-            };
-        }
-        let demand = self.core.demand;
-        if demand.is_running() {
-            return Queued {
-                answer: Special::Refused(DshotSpecialCommandError::MotorsRunning),
-                bank: self,
-            };
-        }
-        let requests = self.core.requests;
-        let pending = requests.command_sequence;
-        if pending.is_some() {
-            return Queued {
-                answer: Special::Refused(DshotSpecialCommandError::CommandPending),
-                bank: self,
-            };
-        }
-        let queued = requests.running(MotorRun::of(motor, sequence));
-        let mut core = self.core;
-        core.requests = queued;
-        self.core = core;
-        Queued {
-            answer: Special::Ok,
-            bank: self,
         }
     }
 
@@ -391,63 +308,29 @@ impl DshotBank {
         ensures { (b : Buffers) → stepped (requested_answer result.answer) result.bank b ≡ step 4 (state_of self b) (Call.request_telemetry_call motor) }
     {
         match DshotMotor::from_index(motor) {
-            MotorChoice::Some(motor) => self.request(motor),
-            MotorChoice::None => Requested {
-                answer: Request::NoSuchMotor,
+            Some(motor) => self.commanded(self.core.requested(motor)),
+            None => Requested {
+                answer: Err(DshotTelemetryRequestError::NoSuchMotor),
                 bank: self,
             },
         }
     }
 
-    fn request(mut self, motor: DshotMotor) -> Requested
-        ensures { (b : Buffers) → stepped (requested_answer result.answer) result.bank b ≡ Call.act 4 (state_of self b) (Call.request_telemetry_call (motor_of motor)) }
-    {
-        if self.core.frame.faulted {
-            return Requested {
-                answer: Request::Refused(DshotTelemetryRequestError::Faulted),
-                bank: self,
-            };
-        }
-        let requests = self.core.requests;
-        let pending = requests.telemetry_request;
-        if pending.is_some() {
-            return Requested {
-                answer: Request::Refused(DshotTelemetryRequestError::Busy),
-                bank: self,
-            };
-        }
-        let requested = requests.requesting(MotorChoice::Some(motor));
-        let mut core = self.core;
-        core.requests = requested;
-        self.core = core;
-        Requested {
-            answer: Request::Ok,
-            bank: self,
-        }
-    }
-
     // Withdraws a telemetry request no frame has carried yet. The ESC manager has given up on it, so it must not reach an ESC later.
+    #[tactic(auto, unfolding(dshot_bank_spec::specs::Steps::step, dshot_bank_spec::specs::Steps::port_refusal, dshot_bank_spec::specs::Commands::cancel_telemetry_request))]
     pub fn cancel_telemetry_request(mut self) -> Self
         ensures { (b : Buffers) → stepped done result b ≡ step 4 (state_of self b) Call.cancel_telemetry_request_call }
     {
-        let requests = self.core.requests.requesting(MotorChoice::None);
-        let mut core = self.core;
-        core.requests = requests;
-        self.core = core;
+        self.core.requests.telemetry_request = None;
         self
     }
 
     // Takes the lane whose telemetry bit was included in the frame started by the most recent `service` call.
+    #[tactic(auto, unfolding(dshot_bank_spec::specs::Steps::step, dshot_bank_spec::specs::Steps::port_refusal, dshot_bank_spec::specs::Commands::clear_request_sent))]
     pub fn take_telemetry_request_sent(mut self) -> SentTaken
         ensures { (b : Buffers) → stepped (motor_sent (choice_of result.motor)) result.bank b ≡ step 4 (state_of self b) Call.take_telemetry_request_sent }
     {
-        let requests = self.core.requests;
-        let sent = requests.telemetry_request_sent;
-        let core = self.core.sent_cleared();
-        self.core = core;
-        SentTaken {
-            motor: sent,
-            bank: self,
-        }
+        let motor = self.core.requests.telemetry_request_sent.take();
+        SentTaken { motor, bank: self }
     }
 }

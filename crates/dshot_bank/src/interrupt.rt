@@ -4,43 +4,52 @@
 // The DMA interrupts of a bank.
 
 ghost use Rattle.std.specs.Prelude.{◌≡◌, ◌<◌, ◌≤◌, true, false, List, ◌++◌, replicate};
+ghost use Rattle.dshot_reply.specs.Refusals.{refusal_number};
 ghost use Rattle.dshot_bank_spec.specs.State.{Buffers};
 ghost use Rattle.dshot_bank_spec.specs.Order.{Order, latch_orders};
 ghost use Rattle.dshot_bank_spec.specs.Send.{latch_fault};
 ghost use Rattle.dshot_bank_spec.specs.Interrupt.{count_completion, lane_done, frame_done, window_opened, window_closed, opens_window, after_lane};
 ghost use Rattle.dshot_bank_spec.specs.Interrupt as Spec;
-ghost use Rattle.dshot_bank_spec.specs.Replies.{wrapping_add};
-ghost use Rattle.dshot_bank_spec.specs.With.{with_frames_completed};
 ghost use Rattle.dshot_bank_spec.specs.Calls.{on_dma_interrupt_call};
 ghost use Rattle.dshot_bank_spec.specs.Steps.{step};
 ghost use Rattle.dshot_bank.specs.States.{motor_of, frame_of, stats_of, core_of, state_of, stepped};
 ghost use Rattle.dshot_bank.specs.Orders.{held, orders_of, Begins, Just};
-ghost use Rattle.dshot_bank.specs.Interrupts.{interrupt_answer, Interrupts};
+ghost use Rattle.dshot_bank.specs.Interrupts.{interrupt_error_number, interrupt_answer, Interrupts};
 
 use crate::orders::{OrderKind, Orders};
-use crate::replies::wrapping_add;
-use crate::{Core, DshotBank, DshotMotor, DshotStats, Frame, MotorChoice};
+use crate::{Core, DshotBank, DshotMotor, DshotStats, Frame};
+use dshot_reply::refusals::Refusal;
 
 const ALL_MOTORS_COMPLETE: u32 = 0b1111;
 
-#[derive(Clone, Copy)]
+#[derive(Clone, Copy, Debug, PartialEq, Eq)]
 pub enum DshotInterruptEvent {
     Completed,
     Faulted,
     Spurious,
 }
 
-// What `on_dma_interrupt` answers. If the lane is above 3, there is no such motor.
-#[derive(Clone, Copy)]
-pub enum Interrupt {
-    Event(DshotInterruptEvent),
+// Why an interrupt is no interrupt of a bank.
+#[derive(Clone, Copy, Debug, PartialEq, Eq)]
+pub enum InterruptError {
+    // The lane is above 3.
     NoSuchMotor,
 }
 
-// The answer, with the orders and the bank after it.
+impl From<InterruptError> for Refusal {
+    ghost from_gives = { λ e r. refusal_number r ≡ interrupt_error_number e };
+
+    fn from(error: InterruptError) -> Refusal {
+        match error {
+            InterruptError::NoSuchMotor => Refusal::NoSuchMotor,
+        }
+    }
+}
+
+// The answer of `on_dma_interrupt`, with the orders and the bank after it.
 #[derive(Clone, Copy)]
 pub struct Interrupted {
-    pub answer: Interrupt,
+    pub answer: Result<DshotInterruptEvent, InterruptError>,
     pub orders: Orders,
     pub bank: DshotBank,
 }
@@ -54,23 +63,16 @@ pub(crate) struct Handled {
 }
 
 impl DshotStats {
-    fn count_frame_completed(mut self) -> Self
-        ensures { stats_of result ≡ with_frames_completed (wrapping_add self.frames_completed) (stats_of self) }
-    {
-        self.frames_completed = wrapping_add(self.frames_completed);
-        self
-    }
-
     fn count_completion(mut self, motor: DshotMotor) -> Self
         ensures { stats_of result ≡ count_completion (motor_of motor) (stats_of self) }
     {
         let mut counts = self.lane_completions;
         // Each lane has a line of its own, because a known place stays in a register.
         match motor {
-            DshotMotor::Motor1 => counts[0] = wrapping_add(counts[0]),
-            DshotMotor::Motor2 => counts[1] = wrapping_add(counts[1]),
-            DshotMotor::Motor3 => counts[2] = wrapping_add(counts[2]),
-            DshotMotor::Motor4 => counts[3] = wrapping_add(counts[3]),
+            DshotMotor::Motor1 => counts[0] = counts[0].wrapping_add(1),
+            DshotMotor::Motor2 => counts[1] = counts[1].wrapping_add(1),
+            DshotMotor::Motor3 => counts[2] = counts[2].wrapping_add(1),
+            DshotMotor::Motor4 => counts[3] = counts[3].wrapping_add(1),
         }
         self.lane_completions = counts;
         self
@@ -82,36 +84,32 @@ impl Frame {
     fn opens_window(self) -> bool
         ensures { result ≡ opens_window (frame_of self) }
     {
-        if self.bidirectional {
-            return !self.receiving;
-        }
-        false
+        self.bidirectional && !self.receiving
     }
 }
 
 impl Core {
+    #[tactic(auto, unfolding(dshot_bank_spec::specs::Interrupt::lane_done))]
     fn lane_done(mut self, motor: DshotMotor) -> Self
         ensures { core_of result ≡ lane_done (motor_of motor) (core_of self) }
     {
-        let mask = self.frame.completion_mask | motor.completion_bit();
-        self.frame.completion_mask = mask;
-        if self.frame.receiving {
-            return self;
+        self.frame.completion_mask |= motor.completion_bit();
+        if !self.frame.receiving {
+            self.stats = self.stats.count_completion(motor);
         }
-        let stats = self.stats.count_completion(motor);
-        self.stats = stats;
         self
     }
 
+    #[tactic(auto, unfolding(dshot_bank_spec::specs::Interrupt::frame_done))]
     fn frame_done(mut self) -> Self
         ensures { core_of result ≡ frame_done (core_of self) }
     {
         self.frame.busy = false;
-        let stats = self.stats.count_frame_completed();
-        self.stats = stats;
+        self.stats.frames_completed = self.stats.frames_completed.wrapping_add(1);
         self
     }
 
+    #[tactic(auto, unfolding(dshot_bank_spec::specs::Interrupt::window_opened))]
     fn window_opened(mut self) -> Self
         ensures { core_of result ≡ window_opened (core_of self) }
     {
@@ -120,6 +118,7 @@ impl Core {
         self
     }
 
+    #[tactic(auto, unfolding(dshot_bank_spec::specs::Interrupt::window_closed))]
     fn window_closed(mut self) -> Self
         ensures { core_of result ≡ window_closed (core_of self) }
     {
@@ -151,6 +150,7 @@ impl Core {
 
     // A lane has completed. After the last lane of a transmission, the receive window opens or the set is done. After the last window, the set is
     // done.
+    #[tactic(auto, unfolding(dshot_bank_spec::specs::Interrupt::after_lane))]
     fn after_lane(self, paused: Orders, turned: bool, turned_back: bool) -> Handled
         requires { (paused.count ≡ 1) × (paused.codes < 128) }
         ensures { (motor : DshotMotor) → Begins paused motor → Interrupts result (after_lane 4 (motor_of motor) true false turned turned_back (core_of self)) }
@@ -181,6 +181,7 @@ impl Core {
             .handled(DshotInterruptEvent::Completed, orders)
     }
 
+    #[tactic(auto, unfolding(dshot_bank_spec::specs::Interrupt::on_dma_interrupt, dshot_spec::specs::Tabulate::tabulate))]
     fn on_dma_interrupt(
         self,
         motor: DshotMotor,
@@ -195,10 +196,7 @@ impl Core {
         if self.frame.faulted {
             return self.handled(DshotInterruptEvent::Faulted, paused);
         }
-        if !self.frame.busy {
-            return self.latched(true, DshotInterruptEvent::Spurious, paused);
-        }
-        if self.frame.completion_mask & motor.completion_bit() != 0 {
+        if !self.frame.busy || self.frame.completion_mask & motor.completion_bit() != 0 {
             return self.latched(true, DshotInterruptEvent::Spurious, paused);
         }
         if dma_error {
@@ -212,6 +210,7 @@ impl Core {
     }
 }
 
+#[tactic(auto, unfolding(dshot_bank_spec::specs::Steps::step, dshot_bank_spec::specs::Steps::port_refusal))]
 impl DshotBank {
     // `turned` says whether every lane turned to receive, and `turned_back` whether every lane turned back. Each counts only if the Rust would ask
     // for it.
@@ -226,31 +225,21 @@ impl DshotBank {
         ensures b_value { (b : Buffers) → stepped (interrupt_answer result.answer (orders_of result.orders (replicate 4 0))) result.bank b ≡ step 4 (state_of self b) (on_dma_interrupt_call motor transfer_complete dma_error turned turned_back) }
         ensures just { Just result.orders (replicate 4 0) (interrupt_answer result.answer (orders_of result.orders (replicate 4 0))) }
     {
-        match DshotMotor::from_index(motor) {
-            MotorChoice::Some(lane) => {
-                let core = self.core;
-                let handled = core.on_dma_interrupt(
-                    lane,
-                    transfer_complete,
-                    dma_error,
-                    turned,
-                    turned_back,
-                );
-                let event = handled.event;
-                let orders = handled.orders;
-                let core = handled.core;
-                self.core = core;
-                Interrupted {
-                    answer: Interrupt::Event(event),
-                    orders,
-                    bank: self,
-                }
-            }
-            MotorChoice::None => Interrupted {
-                answer: Interrupt::NoSuchMotor,
+        let Some(motor) = DshotMotor::from_index(motor) else {
+            return Interrupted {
+                answer: Err(InterruptError::NoSuchMotor),
                 orders: Orders::none(),
                 bank: self,
-            },
+            };
+        };
+        let handled = self
+            .core
+            .on_dma_interrupt(motor, transfer_complete, dma_error, turned, turned_back);
+        self.core = handled.core;
+        Interrupted {
+            answer: Ok(handled.event),
+            orders: handled.orders,
+            bank: self,
         }
     }
 }

@@ -14,13 +14,14 @@
 // does.
 #![tactic(auto)]
 
-ghost use Rattle.std.specs.Prelude.{◌≡◌, false, replicate};
+ghost use Rattle.std.specs.Prelude.{◌≡◌};
 ghost use Rattle.dshot_bank_spec.specs.Commands.{from_lanes, fallback_release_due};
 ghost use Rattle.dshot_bank_spec.specs.Interrupt.{completion_bit};
 ghost use Rattle.dshot.specs.Answers.{timing_of};
 ghost use Rattle.dshot_bank.specs.States.{motor_of, motor_at, choice_of, bank_of};
 
-use dshot::{DshotTiming, MotorValues};
+use dshot::{COMPARE_DMA_SLOTS, DshotCommandSequence, DshotTiming, MotorValues};
+use dshot_reply::REPLY_WINDOW_SAMPLES;
 
 // The orders to the hardware.
 pub mod orders;
@@ -54,31 +55,34 @@ pub const DSHOT_FRAME_TIMEOUT_MS: u32 = 1;
 // The lanes of a bank.
 pub const LANES: usize = 4;
 
+// The slots of a lent buffer of sequences, and the samples of a lent buffer of captures: the lanes' parts, one behind the other.
+pub const SLOTS: usize = COMPARE_DMA_SLOTS * LANES;
+
+pub const SAMPLES: usize = REPLY_WINDOW_SAMPLES * LANES;
+
+pub type Slots = [u16; SLOTS];
+
+pub type Samples = [u16; SAMPLES];
+
 // Whether the fallback must release the service: no frame set has started for a full service period. Times are wrapping milliseconds, so the
 // answer holds across the counter's wrap.
+#[tactic(auto, unfolding(dshot_bank_spec::specs::Commands::fallback_release_due))]
 pub fn fallback_release_due(now_ms: u32, last_release_ms: u32) -> bool
     ensures { result ≡ fallback_release_due now_ms last_release_ms }
 {
-    std::num::wrapping_sub_u32(now_ms, last_release_ms) >= DSHOT_SERVICE_PERIOD_MS
+    now_ms.wrapping_sub(last_release_ms) >= DSHOT_SERVICE_PERIOD_MS
 }
 
 // Physical four-lane DShot bank output, before any airframe motor remap.
 //
 // `Motor1` here means physical timer/DMA lane 1. It must not be interpreted as Betaflight logical M1; the application performs that mapping
 // separately.
-#[derive(Clone, Copy)]
+#[derive(Clone, Copy, Debug, PartialEq, Eq)]
 pub enum DshotMotor {
     Motor1,
     Motor2,
     Motor3,
     Motor4,
-}
-
-// A motor, or none.
-#[derive(Clone, Copy)]
-pub enum MotorChoice {
-    None,
-    Some(DshotMotor),
 }
 
 impl DshotMotor {
@@ -92,40 +96,30 @@ impl DshotMotor {
     pub fn index(self) -> usize
         ensures { result ≡ motor_of self }
     {
-        match self {
-            DshotMotor::Motor1 => 0,
-            DshotMotor::Motor2 => 1,
-            DshotMotor::Motor3 => 2,
-            DshotMotor::Motor4 => 3,
-        }
+        self as usize
     }
 
     // The motor on zero-based lane `index`, the order motor commands use.
-    pub fn from_index(index: usize) -> MotorChoice
+    pub fn from_index(index: usize) -> Option<Self>
         ensures { choice_of result ≡ motor_at index }
     {
         match index {
-            0 => MotorChoice::Some(DshotMotor::Motor1),
-            1 => MotorChoice::Some(DshotMotor::Motor2),
-            2 => MotorChoice::Some(DshotMotor::Motor3),
-            3 => MotorChoice::Some(DshotMotor::Motor4),
-            _ => MotorChoice::None,
+            0 => Some(DshotMotor::Motor1),
+            1 => Some(DshotMotor::Motor2),
+            2 => Some(DshotMotor::Motor3),
+            3 => Some(DshotMotor::Motor4),
+            _ => None,
         }
     }
 
     pub(crate) fn completion_bit(self) -> u32
         ensures { result ≡ completion_bit (motor_of self) }
     {
-        match self {
-            DshotMotor::Motor1 => 1,
-            DshotMotor::Motor2 => 2,
-            DshotMotor::Motor3 => 4,
-            DshotMotor::Motor4 => 8,
-        }
+        1 << self.index()
     }
 }
 
-#[derive(Clone, Copy)]
+#[derive(Clone, Copy, Debug, Default, PartialEq, Eq)]
 pub struct DshotStats {
     pub frames_started: u32,
     pub frames_completed: u32,
@@ -138,7 +132,7 @@ pub struct DshotStats {
 }
 
 // What the motors are asked to do.
-#[derive(Clone, Copy)]
+#[derive(Clone, Copy, Default)]
 pub struct Demand {
     pub requested_values: MotorValues,
     pub lease_started_ms: u64,
@@ -147,29 +141,23 @@ pub struct Demand {
     pub lease_over_after_ms: u64,
 }
 
-// Special-command frames still to send, for one motor. These are the fields of its `DshotCommandSequence`, since an enum holds no array. They are
-// sent only while every throttle is zero. If a throttle demand is in force when a frame starts, it cancels them.
+// Special-command frames still to send, for one motor. They are sent only while every throttle is zero. If a throttle demand is in force when a
+// frame starts, it cancels them.
 #[derive(Clone, Copy)]
-pub enum MotorRun {
-    None,
-    Some {
-        motor: DshotMotor,
-        first: u16,
-        second: u16,
-        index: u8,
-        repeats_left: u8,
-    },
+pub struct MotorRun {
+    pub motor: DshotMotor,
+    pub sequence: DshotCommandSequence,
 }
 
-#[derive(Clone, Copy)]
+#[derive(Clone, Copy, Default)]
 pub struct Requests {
-    pub telemetry_request: MotorChoice,
-    pub telemetry_request_sent: MotorChoice,
-    pub command_sequence: MotorRun,
+    pub telemetry_request: Option<DshotMotor>,
+    pub telemetry_request_sent: Option<DshotMotor>,
+    pub command_sequence: Option<MotorRun>,
 }
 
 // In this order the fields leave no gap between them. A gap would be copied separately, and keep the struct out of registers.
-#[derive(Clone, Copy)]
+#[derive(Clone, Copy, Default)]
 pub struct Frame {
     // For each lane: if it is set, the lane sends from the second buffer, and the first is its spare.
     pub in_second: [bool; LANES],
@@ -234,25 +222,16 @@ pub struct DshotBank {
 
 impl DshotBank {
     // A bank whose lanes hold their first buffers, with one spare per lane. The first lent buffer is current, and the second is spare.
+    #[tactic(auto, unfolding(dshot_bank_spec::specs::Commands::from_lanes))]
     pub fn from_lanes(timing: DshotTiming) -> Self
         ensures { bank_of result ≡ from_lanes 4 (timing_of timing) }
     {
-        let demand = Demand {
-            requested_values: [0; LANES],
-            lease_started_ms: 0,
-            lease_over_after_ms: 0,
-        };
-        let requests = Requests {
-            telemetry_request: MotorChoice::None,
-            telemetry_request_sent: MotorChoice::None,
-            command_sequence: MotorRun::None,
-        };
         let core = Core {
             timing,
-            demand,
-            requests,
-            frame: Frame::new(),
-            stats: DshotStats::new(),
+            demand: Demand::default(),
+            requests: Requests::default(),
+            frame: Frame::default(),
+            stats: DshotStats::default(),
         };
         let reply = LaneReply {
             reply: StoredReply::NoReply,
@@ -263,41 +242,6 @@ impl DshotBank {
         DshotBank {
             core,
             replies: [reply; LANES],
-        }
-    }
-}
-
-impl Frame {
-    fn new() -> Self
-        ensures { result ≡ record { in_second = replicate 4 false; completion_mask = 0; frame_started_ms = 0; busy = false; faulted = false; bidirectional = false; receiving = false; replies_waiting = false; replies_held = false } }
-    {
-        Frame {
-            in_second: [false; LANES],
-            completion_mask: 0,
-            frame_started_ms: 0,
-            busy: false,
-            faulted: false,
-            bidirectional: false,
-            receiving: false,
-            replies_waiting: false,
-            replies_held: false,
-        }
-    }
-}
-
-impl DshotStats {
-    fn new() -> Self
-        ensures { result ≡ record { frames_started = 0; frames_completed = 0; lane_completions = replicate 4 0; busy_skips = 0; lease_expiries = 0; frame_timeouts = 0; dma_faults = 0; spurious_interrupts = 0 } }
-    {
-        DshotStats {
-            frames_started: 0,
-            frames_completed: 0,
-            lane_completions: [0; LANES],
-            busy_skips: 0,
-            lease_expiries: 0,
-            frame_timeouts: 0,
-            dma_faults: 0,
-            spurious_interrupts: 0,
         }
     }
 }

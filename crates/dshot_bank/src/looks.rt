@@ -6,31 +6,41 @@
 ghost use Rattle.std.specs.Prelude.{◌≡◌};
 ghost use Rattle.dshot_bank_spec.specs.State.{Buffers};
 ghost use Rattle.dshot_bank_spec.specs.Calls as Call;
-ghost use Rattle.dshot_bank_spec.specs.Calls.{Stepped, flag, counts, values, sequence_sent};
+ghost use Rattle.dshot_bank_spec.specs.Calls.{Stepped, flag, counts, values};
 ghost use Rattle.dshot_bank_spec.specs.Steps.{slots_fit, step};
-ghost use Rattle.dshot_bank.specs.States.{stats_of, core_of, state_of, stepped};
-ghost use Rattle.dshot_bank.specs.Views.{view_answer, shown};
+ghost use Rattle.dshot_reply.specs.Refusals.{refusal_number};
+ghost use Rattle.dshot_bank.specs.States.{stats_of, state_of, stepped};
+ghost use Rattle.dshot_bank.specs.Views.{view_error_number, view_answer};
 
-use crate::{DshotBank, DshotStats, LANES};
+use crate::{DshotBank, DshotStats, LANES, SLOTS};
 use dshot::{COMPARE_DMA_SLOTS, MotorValues};
+use dshot_reply::refusals::Refusal;
 
-// What a view answers: a part of a buffer, or why there is none.
-#[derive(Clone, Copy)]
-pub enum View {
-    Shown,
+// Why a view shows nothing.
+#[derive(Clone, Copy, Debug, PartialEq, Eq)]
+pub enum ViewError {
     WrongLength,
     NoSuchMotor,
+}
+
+impl From<ViewError> for Refusal {
+    ghost from_gives = { λ e r. refusal_number r ≡ view_error_number e };
+
+    fn from(error: ViewError) -> Refusal {
+        match error {
+            ViewError::WrongLength => Refusal::WrongLength,
+            ViewError::NoSuchMotor => Refusal::NoSuchMotor,
+        }
+    }
 }
 
 pub fn buffers_fit(first: usize, second: usize) -> bool
     ensures { result ≡ slots_fit 4 first second }
 {
-    if first != COMPARE_DMA_SLOTS * LANES {
-        return false;
-    }
-    second == COMPARE_DMA_SLOTS * LANES
+    first == SLOTS && second == SLOTS
 }
 
+#[tactic(auto, unfolding(dshot_bank_spec::specs::Steps::step, dshot_bank_spec::specs::Steps::port_refusal))]
 impl DshotBank {
     pub fn is_bidirectional(self) -> bool
         ensures { (b : Buffers) → stepped (flag result) self b ≡ step 4 (state_of self b) Call.is_bidirectional }
@@ -60,40 +70,30 @@ impl DshotBank {
     pub fn command_pending(self) -> bool
         ensures { (b : Buffers) → stepped (flag result) self b ≡ step 4 (state_of self b) Call.command_pending_call }
     {
-        let requests = self.core.requests;
-        let run = requests.command_sequence;
-        run.is_some()
+        self.core.requests.command_sequence.is_some()
     }
 
-    // Whether `sending` shows a sequence, or why not.
-    pub fn sending_answer(self, first: &[u16], second: &[u16], motor: usize) -> View
-        ensures { ◌≡◌ {A = Stepped} (stepped (view_answer result (sequence_sent (core_of self.core) (record { first = first.entry.now; second = second.now }) motor)) self (record { first = first.entry.now; second = second.now })) (step 4 (state_of self (record { first = first.entry.now; second = second.now })) (Call.sending motor)) }
+    // The 16 slots of the sequence that a lane is sending: a part of the buffer that its mark names.
+    pub fn sending<'a>(
+        self,
+        first: &'a [u16],
+        second: &'a [u16],
+        motor: usize,
+    ) -> Result<&'a [u16], ViewError>
+        ensures { ◌≡◌ {A = Stepped} (stepped (view_answer result) self (record { first = first.entry.now; second = second.now })) (step 4 (state_of self (record { first = first.entry.now; second = second.now })) (Call.sending motor)) }
     {
         if !buffers_fit(first.len(), second.len()) {
-            return View::WrongLength;
-        }
-        if motor < LANES {
-            return View::Shown;
-        }
-        View::NoSuchMotor
-    }
-
-    // The 16 slots of the sequence that a lane is sending: a part of the buffer that its mark names. If `sending_answer` refuses, it is empty.
-    pub fn sending<'a>(self, first: &'a [u16], second: &'a [u16], motor: usize) -> &'a [u16]
-        ensures { result.now ≡ shown (step 4 (state_of self (record { first = first.entry.now; second = second.now })) (Call.sending motor)).answer }
-    {
-        if !buffers_fit(first.len(), second.len()) {
-            return &first[0..0];
+            return Err(ViewError::WrongLength);
         }
         if motor >= LANES {
-            return &first[0..0];
+            return Err(ViewError::NoSuchMotor);
         }
         let from = COMPARE_DMA_SLOTS * motor;
         let to = from + COMPARE_DMA_SLOTS;
-        let marks = self.core.frame.in_second;
-        if marks[motor] {
-            return &second[from..to];
+        if self.core.frame.in_second[motor] {
+            Ok(&second[from..to])
+        } else {
+            Ok(&first[from..to])
         }
-        &first[from..to]
     }
 }

@@ -4,6 +4,7 @@
 // The orders to the hardware that a call returns, in the order in which the host does them.
 
 ghost use Rattle.std.specs.Prelude.{◌≡◌, ℕ, ◌+◌, ◌*◌, ◌<◌, ◌≤◌, List, [], ◌∷◌, ◌++◌};
+ghost use Rattle.std.specs.Iterator.{at_most};
 ghost use Rattle.dshot_spec.specs.Tabulate.{tabulate};
 ghost use Rattle.dshot_bank_spec.specs.Order as Spec;
 ghost use Rattle.dshot_bank_spec.specs.Order.{exchange_buffer, latch_orders, start_orders, refused_orders};
@@ -13,11 +14,10 @@ ghost use Rattle.dshot_bank_spec.specs.OrderNumber.{code};
 
 use crate::{DshotMotor, LANES};
 
-#[derive(Clone, Copy)]
+#[derive(Clone, Copy, Debug, PartialEq, Eq)]
 pub enum OrderKind {
-    None,
     // Swap the lane's spare in as its DMA buffer.
-    ExchangeBuffer,
+    ExchangeBuffer = 1,
     // Enable the lane's DMA stream. No timer request is open yet.
     StartDma,
     // Load the first duties, open the timer DMA requests, and start the timers so all four lanes begin together.
@@ -35,7 +35,7 @@ pub enum OrderKind {
 }
 
 // One order and its lane. If the order is for all lanes, the lane is 0.
-#[derive(Clone, Copy)]
+#[derive(Clone, Copy, Debug, PartialEq, Eq)]
 pub struct Order {
     pub kind: OrderKind,
     pub motor: u8,
@@ -54,15 +54,15 @@ pub struct Orders {
 }
 
 // The numbers of orders: 8 x the kind, to which a lane is added.
-const EXCHANGE: u64 = 8 * 1;
+const EXCHANGE: u64 = 8 * OrderKind::ExchangeBuffer as u64;
 
-const START: u64 = 8 * 2;
+const START: u64 = 8 * OrderKind::StartDma as u64;
 
-const START_FRAME: u64 = 8 * 3;
+const START_FRAME: u64 = 8 * OrderKind::StartFrame as u64;
 
-const FORCE_LOW: u64 = 8 * 5;
+const FORCE_LOW: u64 = 8 * OrderKind::ForceOutputsLow as u64;
 
-const PAUSE: u64 = 8 * 6;
+const PAUSE: u64 = 8 * OrderKind::PauseAndClear as u64;
 
 // The factors that move a number up by one order, by two, and so on.
 const UP: u64 = 128;
@@ -93,6 +93,7 @@ const PAUSES: u64 = PAUSE + UP * (PAUSE + 1 + UP * (PAUSE + 2 + UP * (PAUSE + 3)
 const LATCHED: u64 = FORCE_LOW + UP * PAUSES;
 
 // The orders of a latched fault, moved up by some orders.
+#[tactic(auto, unfolding(dshot_spec::specs::Tabulate::tabulate))]
 fn latched_above(orders: usize) -> u64
     requires { orders ≤ 4 }
     ensures { (result ≡ above orders (codes_of (latch_orders 4))) × (result < 4611686018427387904) }
@@ -110,68 +111,52 @@ impl OrderKind {
     pub fn number(self) -> u64
         ensures { result ≡ kind_number self }
     {
-        match self {
-            OrderKind::None => 0,
-            OrderKind::ExchangeBuffer => 1,
-            OrderKind::StartDma => 2,
-            OrderKind::StartFrame => 3,
-            OrderKind::StopFrame => 4,
-            OrderKind::ForceOutputsLow => 5,
-            OrderKind::PauseAndClear => 6,
-            OrderKind::BeginReceive => 7,
-            OrderKind::EndReceive => 8,
-        }
+        self as u64
     }
 
-    // The kind of a number. Any other number gives `None`.
-    pub fn of(number: u64) -> Self
+    // The kind of a number.
+    pub fn of(number: u64) -> Option<Self>
         ensures { result ≡ kind_at number }
     {
         match number {
-            1 => OrderKind::ExchangeBuffer,
-            2 => OrderKind::StartDma,
-            3 => OrderKind::StartFrame,
-            4 => OrderKind::StopFrame,
-            5 => OrderKind::ForceOutputsLow,
-            6 => OrderKind::PauseAndClear,
-            7 => OrderKind::BeginReceive,
-            8 => OrderKind::EndReceive,
-            _ => OrderKind::None,
+            1 => Some(OrderKind::ExchangeBuffer),
+            2 => Some(OrderKind::StartDma),
+            3 => Some(OrderKind::StartFrame),
+            4 => Some(OrderKind::StopFrame),
+            5 => Some(OrderKind::ForceOutputsLow),
+            6 => Some(OrderKind::PauseAndClear),
+            7 => Some(OrderKind::BeginReceive),
+            8 => Some(OrderKind::EndReceive),
+            _ => None,
         }
     }
 }
 
-impl Orders {
-    // The first order. If there is none, its kind is `None`.
-    pub fn first(self) -> Order
-        ensures { result ≡ first_order self }
-    {
+impl Iterator for Orders {
+    type Item = Order;
+
+    ghost next_gives = { λ s r t. (r ≡ first_order s) × (t ≡ rest_orders s) };
+
+    ghost remaining = { λ s. at_most s.count };
+
+    // The first order, which is taken away. A number of no kind ends the orders; no call gives one.
+    fn next(&mut self) -> Option<Order> {
         if self.count == 0 {
-            return Order {
-                kind: OrderKind::None,
-                motor: 0,
-            };
+            return None;
         }
         let entry = self.codes % 128;
-        Order {
-            kind: OrderKind::of(entry / 8),
+        self.count -= 1;
+        self.codes /= 128;
+        let kind = OrderKind::of(entry / 8)?;
+        Some(Order {
+            kind,
             motor: (entry % 8) as u8,
-        }
+        })
     }
+}
 
-    // The orders after the first.
-    pub fn rest(self) -> Self
-        ensures { result ≡ rest_orders self }
-    {
-        if self.count == 0 {
-            return self;
-        }
-        Orders {
-            count: self.count - 1,
-            codes: self.codes / 128,
-        }
-    }
-
+#[tactic(auto, unfolding(crate::specs::Orders::held, dshot_spec::specs::Tabulate::tabulate))]
+impl Orders {
     pub(crate) fn none() -> Self
         ensures { (result.count ≡ 0) × (result.codes ≡ 0) × (result ≡ held []) }
     {
@@ -184,7 +169,7 @@ impl Orders {
     {
         Orders {
             count: 1,
-            codes: PAUSE + motor.index() as u64,
+            codes: PAUSE + motor as u64,
         }
     }
 
@@ -200,6 +185,7 @@ impl Orders {
     }
 
     // At most four orders, and behind them those of a latched fault.
+    #[tactic(auto, using(crate::proofs::OrderLaws::held_append), unfolding(dshot_spec::specs::Tabulate::tabulate))]
     pub(crate) fn latched(self) -> Self
         requires { (self.count ≤ 4) × (self.codes < 268435456) }
         ensures { (l : List Spec.Order) → self ≡ held l → result ≡ held (l ++ latch_orders 4) }

@@ -4,26 +4,28 @@
 //
 // The service of a bank: the lease, the frame in flight, the replies that wait, and the next frame set.
 
-ghost use Rattle.std.specs.Prelude.{◌≡◌, ◌*◌, [], length};
+ghost use Rattle.std.specs.Prelude.{◌≡◌, [], replicate, Err};
+ghost use Rattle.dshot_reply.specs.Refusals.{refusal_number};
 ghost use Rattle.dshot_bank_spec.specs.State.{Buffers};
 ghost use Rattle.dshot_bank_spec.specs.Service.{demand_expired, expire_lease, service_busy, replies_read, sent_event};
 ghost use Rattle.dshot_bank_spec.specs.Service as Spec;
-ghost use Rattle.dshot_bank_spec.specs.Replies.{wrapping_add};
-ghost use Rattle.dshot_bank_spec.specs.With.{with_busy_skips, with_lease_expiries, with_frame_timeouts};
 ghost use Rattle.dshot_bank_spec.specs.Calls.{Stepped, service_call};
 ghost use Rattle.dshot_bank_spec.specs.Steps.{service_fits, step};
-ghost use Rattle.dshot_bank.specs.States.{demand_of, stats_of, core_of, replies_of, bank_of};
-ghost use Rattle.dshot_bank.specs.Orders.{orders_of, Just};
-ghost use Rattle.dshot_bank.specs.Serves.{service_event_of, service_answer, Skips, Serves};
+ghost use Rattle.dshot_bank.specs.States.{demand_of, core_of, replies_of, bank_of};
+ghost use Rattle.dshot_bank.specs.declared.service.ServiceError.TheVariants.{WrongLength};
+ghost use Rattle.dshot_bank.specs.Orders.{held, orders_of, Just};
+ghost use Rattle.dshot_bank.specs.Serves.{service_error_number, service_event_of, service_answer, Skips, Serves};
 
 use crate::looks::buffers_fit;
 use crate::orders::Orders;
-use crate::replies::{LaneFlags, read_replies, wrapping_add};
-use crate::{Core, DSHOT_FRAME_TIMEOUT_MS, Demand, DshotBank, DshotStats, LANES, LaneReply};
+use crate::replies::{LaneFlags, read_replies};
+use crate::{
+    Core, DSHOT_FRAME_TIMEOUT_MS, Demand, DshotBank, LANES, LaneReply, SAMPLES, Samples, Slots,
+};
 use dshot::{MotorValues, command_lease_expired};
-use dshot_reply::REPLY_WINDOW_SAMPLES;
+use dshot_reply::refusals::Refusal;
 
-#[derive(Clone, Copy)]
+#[derive(Clone, Copy, Debug, PartialEq, Eq)]
 pub enum DshotServiceEvent {
     FrameStarted,
     Busy,
@@ -31,17 +33,26 @@ pub enum DshotServiceEvent {
     Faulted,
 }
 
-// What `service` answers.
-#[derive(Clone, Copy)]
-pub enum Service {
-    Event(DshotServiceEvent),
+// Why a service is refused: a lent buffer has another length.
+#[derive(Clone, Copy, Debug, PartialEq, Eq)]
+pub enum ServiceError {
     WrongLength,
+}
+
+impl From<ServiceError> for Refusal {
+    ghost from_gives = { λ e r. refusal_number r ≡ service_error_number e };
+
+    fn from(error: ServiceError) -> Refusal {
+        match error {
+            ServiceError::WrongLength => Refusal::WrongLength,
+        }
+    }
 }
 
 // The answer, the orders, the first duties for `StartFrame` (zeros without it), and the bank after the call.
 #[derive(Clone, Copy)]
 pub struct Served {
-    pub answer: Service,
+    pub answer: Result<DshotServiceEvent, ServiceError>,
     pub orders: Orders,
     pub first_duties: MotorValues,
     pub bank: DshotBank,
@@ -55,97 +66,55 @@ pub(crate) struct Skipped {
     pub core: Core,
 }
 
+#[tactic(auto, unfolding(dshot_bank_spec::specs::Service::demand_expired, dshot_spec::specs::Lease::lease_expired))]
 impl Demand {
     fn expired(self, now_ms: u64) -> bool
         ensures { result ≡ demand_expired now_ms (demand_of self) }
     {
-        let lease = self.lease_over_after_ms;
-        if lease == 0 {
-            return false;
-        }
-        std::num::wrapping_sub_u64(now_ms, self.lease_started_ms) >= lease
-    }
-}
-
-impl DshotStats {
-    fn count_lease_expiry(mut self) -> Self
-        ensures { stats_of result ≡ with_lease_expiries (wrapping_add self.lease_expiries) (stats_of self) }
-    {
-        self.lease_expiries = wrapping_add(self.lease_expiries);
-        self
-    }
-
-    fn count_busy_skip(mut self) -> Self
-        ensures { stats_of result ≡ with_busy_skips (wrapping_add self.busy_skips) (stats_of self) }
-    {
-        self.busy_skips = wrapping_add(self.busy_skips);
-        self
-    }
-
-    fn count_timeout(mut self) -> Self
-        ensures { stats_of result ≡ with_frame_timeouts (wrapping_add self.frame_timeouts) (stats_of self) }
-    {
-        self.frame_timeouts = wrapping_add(self.frame_timeouts);
-        self
+        self.lease_over_after_ms != 0
+            && now_ms.wrapping_sub(self.lease_started_ms) >= self.lease_over_after_ms
     }
 }
 
 impl Core {
-    fn lease_ended(self, expired: bool) -> Self
+    #[tactic(auto, unfolding(dshot_bank_spec::specs::Service::expire_lease, dshot_bank_spec::specs::Commands::command_stop))]
+    fn lease_ended(mut self, expired: bool) -> Self
         ensures { core_of result ≡ expire_lease 4 expired (core_of self) }
     {
-        if !expired {
-            return self;
+        if expired {
+            self.demand = self.demand.stopped();
+            self.stats.lease_expiries = self.stats.lease_expiries.wrapping_add(1);
         }
-        let mut core = self.stopped();
-        let stats = core.stats.count_lease_expiry();
-        core.stats = stats;
-        core
-    }
-
-    fn skip_counted(mut self) -> Self
-        ensures { core_of result ≡ Spec.count_busy_skip (core_of self) }
-    {
-        let stats = self.stats.count_busy_skip();
-        self.stats = stats;
-        self
-    }
-
-    fn timeout_counted(mut self) -> Self
-        ensures { core_of result ≡ Spec.count_timeout (core_of self) }
-    {
-        let stats = self.stats.count_timeout();
-        self.stats = stats;
         self
     }
 
     // A frame is in flight.
-    fn service_busy(self, now_ms: u64, lease_expired: bool) -> Skipped
+    #[tactic(auto, unfolding(dshot_bank_spec::specs::Service::service_busy, dshot_spec::specs::Tabulate::tabulate))]
+    fn service_busy(mut self, now_ms: u64, lease_expired: bool) -> Skipped
         ensures { Skips result (service_busy 4 now_ms lease_expired (core_of self)) }
     {
-        let core = self.skip_counted();
-        let started = core.frame.frame_started_ms;
-        if command_lease_expired(started, DSHOT_FRAME_TIMEOUT_MS, now_ms) {
+        self.stats.busy_skips = self.stats.busy_skips.wrapping_add(1);
+        if command_lease_expired(self.frame.frame_started_ms, DSHOT_FRAME_TIMEOUT_MS, now_ms) {
+            self.stats.frame_timeouts = self.stats.frame_timeouts.wrapping_add(1);
             return Skipped {
                 event: DshotServiceEvent::Faulted,
                 orders: Orders::none().latched(),
-                core: core.timeout_counted().latch_fault(false),
+                core: self.latch_fault(false),
             };
         }
-        if lease_expired {
-            return Skipped {
-                event: DshotServiceEvent::LeaseExpired,
-                orders: Orders::none(),
-                core,
-            };
-        }
+        let event = if lease_expired {
+            DshotServiceEvent::LeaseExpired
+        } else {
+            DshotServiceEvent::Busy
+        };
         Skipped {
-            event: DshotServiceEvent::Busy,
+            event,
             orders: Orders::none(),
-            core,
+            core: self,
         }
     }
 
+    #[tactic(auto, unfolding(dshot_bank_spec::specs::Service::replies_read))]
     fn replies_read(mut self) -> Self
         ensures { core_of result ≡ replies_read (core_of self) }
     {
@@ -161,14 +130,14 @@ impl Skipped {
     fn served(self, replies: [LaneReply; LANES]) -> Served
         ensures { (b : Buffers) (s : Spec.Skipped) → Skips self s → Serves result b (Spec.unsent 4 0 [] [] [] [] (replies_of replies) b s) }
     {
-        let event = self.event;
-        let orders = self.orders;
-        let core = self.core;
         Served {
-            answer: Service::Event(event),
-            orders,
+            answer: Ok(self.event),
+            orders: self.orders,
             first_duties: [0; LANES],
-            bank: DshotBank { core, replies },
+            bank: DshotBank {
+                core: self.core,
+                replies,
+            },
         }
     }
 }
@@ -177,21 +146,18 @@ fn sent_event(started: bool, lease_expired: bool) -> DshotServiceEvent
     ensures { service_event_of result ≡ sent_event started lease_expired }
 {
     if !started {
-        return DshotServiceEvent::Faulted;
+        DshotServiceEvent::Faulted
+    } else if lease_expired {
+        DshotServiceEvent::LeaseExpired
+    } else {
+        DshotServiceEvent::FrameStarted
     }
-    if lease_expired {
-        return DshotServiceEvent::LeaseExpired;
-    }
-    DshotServiceEvent::FrameStarted
 }
 
 pub fn lengths_fit(first: usize, second: usize, captures: usize) -> bool
     ensures { result ≡ service_fits 4 first second captures }
 {
-    if !buffers_fit(first, second) {
-        return false;
-    }
-    captures == REPLY_WINDOW_SAMPLES * LANES
+    buffers_fit(first, second) && captures == SAMPLES
 }
 
 impl DshotBank {
@@ -202,40 +168,40 @@ impl DshotBank {
         lease_expired: bool,
         now_ms: u64,
         taken: LaneFlags,
-        first: &mut [u16],
-        second: &mut [u16],
+        first: &mut Slots,
+        second: &mut Slots,
     ) -> Served
-        requires { (length first.old ≡ 16 * 4) × (length second.old ≡ 16 * 4) }
         ensures { Serves result (record { first = first.exit.now; second = second.new }) (Spec.sending 4 now_ms taken [] [] [] [] (record { first = first.entry.now; second = second.old }) lease_expired (core_of core) (replies_of replies)) }
     {
         let sent = core.send_requested(now_ms, taken, first, second);
-        let event = sent_event(sent.started, lease_expired);
-        let orders = sent.orders;
         let first_duties = sent.first_duties;
-        let core = sent.core;
         Served {
-            answer: Service::Event(event),
-            orders,
+            answer: Ok(sent_event(sent.started, lease_expired)),
+            orders: sent.orders,
             first_duties,
-            bank: DshotBank { core, replies },
+            bank: DshotBank {
+                core: sent.core,
+                replies,
+            },
         }
     }
 
+    #[tactic(auto, unfolding(dshot_bank_spec::specs::Service::service_core, dshot_bank_spec::specs::Commands::clear_request_sent))]
     fn service_lanes(
         self,
         now_ms: u64,
         taken: LaneFlags,
         present: LaneFlags,
         masks: MotorValues,
-        first: &mut [u16],
-        second: &mut [u16],
-        captures: &[u16],
+        first: &mut Slots,
+        second: &mut Slots,
+        captures: &Samples,
     ) -> Served
-        requires { (length first.old ≡ 16 * 4) × (length second.old ≡ 16 * 4) × (length captures.now ≡ 160 * 4) }
         ensures { Serves result (record { first = first.exit.now; second = second.new }) (Spec.service 4 now_ms taken present masks captures.now (bank_of self) (record { first = first.entry.now; second = second.old })) }
     {
         let replies = self.replies;
-        let core = self.core.sent_cleared();
+        let mut core = self.core;
+        core.requests.telemetry_request_sent = None;
         if core.frame.faulted {
             let skipped = Skipped {
                 event: DshotServiceEvent::Faulted,
@@ -244,8 +210,7 @@ impl DshotBank {
             };
             return skipped.served(replies);
         }
-        let demand = core.demand;
-        let lease_expired = demand.expired(now_ms);
+        let lease_expired = core.demand.expired(now_ms);
         let core = core.lease_ended(lease_expired);
         if core.frame.busy {
             return core.service_busy(now_ms, lease_expired).served(replies);
@@ -256,7 +221,20 @@ impl DshotBank {
         DshotBank::send(core, decoded, lease_expired, now_ms, taken, first, second)
     }
 
+    // The refusal of a lent buffer.
+    fn unserved(self) -> Served
+        ensures { result ≡ record { answer = Err WrongLength; orders = held []; first_duties = replicate 4 0; bank = self } }
+    {
+        Served {
+            answer: Err(ServiceError::WrongLength),
+            orders: Orders::none(),
+            first_duties: [0; LANES],
+            bank: self,
+        }
+    }
+
     // `taken` says whether each lane took its buffer. `present` says whether each lane has a capture: its window of `captures`, read at its mask.
+    #[tactic(auto, unfolding(dshot_bank_spec::specs::Steps::step, dshot_bank_spec::specs::Steps::port_refusal))]
     pub fn service(
         self,
         now_ms: u64,
@@ -270,14 +248,15 @@ impl DshotBank {
         ensures fact { ◌≡◌ {A = Stepped} (record { answer = service_answer result.answer (orders_of result.orders result.first_duties) (bank_of self).core.frame.in_second; state = record { bank = bank_of result.bank; buffers = record { first = first.exit.now; second = second.new } } }) (step 4 (record { bank = bank_of self; buffers = record { first = first.entry.now; second = second.old } }) (service_call now_ms taken present masks captures.now)) }
         ensures just { Just result.orders result.first_duties (service_answer result.answer (orders_of result.orders result.first_duties) (bank_of self).core.frame.in_second) }
     {
-        if !lengths_fit(first.len(), second.len(), captures.len()) {
-            return Served {
-                answer: Service::WrongLength,
-                orders: Orders::none(),
-                first_duties: [0; LANES],
-                bank: self,
-            };
-        }
+        let Some(first) = first.as_mut_array() else {
+            return self.unserved();
+        };
+        let Some(second) = second.as_mut_array() else {
+            return self.unserved();
+        };
+        let Some(captures) = captures.as_array() else {
+            return self.unserved();
+        };
         self.service_lanes(now_ms, taken, present, masks, first, second, captures)
     }
 }

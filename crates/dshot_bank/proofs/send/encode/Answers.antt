@@ -1,24 +1,37 @@
--- `dshot_bank::send::encode` meets its contract.
+-- `dshot_bank::send::encode` meets its contract: a part of sixteen slots is not refused.
 -- Assumes nothing.
-use Rattle.std.proofs.Common.{◌≡◌, sym, ap, ◌∙◌}
-use Rattle.dshot_bank.proofs.SendLaws.{slots-written, duty-returned, never-refused}
+use Rattle.std.specs.Prelude.{Result, Ok, Err}
+use Rattle.std.proofs.Common.{◌≡◌, ℕ, List, length, refl, ap, sym, ◌∙◌, subst, eq-eqb}
+use Rattle.std.specs.Result.{IsOk}
+use Rattle.dshot_reply_spec.specs.Answer.{given, filled}
+use Rattle.dshot_spec.specs.Timing.{Timing}
+use Rattle.dshot_spec.specs.Sequence.{Sequence, sequence_of, encoded_sequence, first_duty}
+use Rattle.dshot.specs.declared.EncodeError.{EncodeError}
 use Rattle.dshot.specs.Answers.{timing_of, first_answer}
-use Rattle.dshot_reply_spec.specs.Answer.{given}
-use Rattle.dshot_spec.specs.Sequence.{sequence_of}
 use Rattle.dshot_bank.proofs.send.encode.Goals as goal
 
-pub returns-in-First : goal.returns-in-First
-returns-in-First c =
-    let a = c.args in
-    let e = c.encode_compare_sequence.ensures in
-    let long = c.requires in
-    let told : given c.in-First.duty ≡ given (sequence_of (timing_of a.timing) a.packet.0).first =
-    sym (ap first_answer c.in-First.is) ∙ duty-returned a.part.now a.packet.0 (timing_of a.timing) long e.result_value in
-    record { value = cc told; part_after = slots-written a.part.now a.packet.0 (timing_of a.timing) long e.dma_output_after }
+-- what is given is an `Ok`
+ok-given : (r : Result ℕ EncodeError) {n : ℕ} → first_answer r ≡ given n → r ≡ Ok n
+ok-given (Ok d) e = ap Ok (cc)
+ok-given (Err x) e = cc
 
-pub returns-in-WrongLength : goal.returns-in-WrongLength
-returns-in-WrongLength c =
+-- sixteen slots are filled
+encoded : (part : List ℕ) (w : ℕ) (t : Timing) → length part ≡ 16 → encoded_sequence part w t ≡ given (sequence_of t w)
+unfolding encoded_sequence
+encoded part w t long = rw (eq-eqb (length part) 16 long)
+
+pub unwrap-requires : goal.unwrap-requires
+unwrap-requires c =
     let a = c.args in
     let e = c.encode_compare_sequence.ensures in
-    let long = c.requires in
-    absurd (never-refused a.part.now a.packet.0 (timing_of a.timing) long (sym (ap first_answer c.in-WrongLength.is) ∙ e.result_value))
+    subst (λ (r : Result ℕ EncodeError). IsOk r)
+    (sym (ok-given c.encode_compare_sequence.result (e.result_value ∙ ap first_duty (encoded a.part.now a.packet.0 (timing_of a.timing) c.requires)))) refl
+
+pub returns : goal.returns
+returns c =
+    let a = c.args in
+    let e = c.encode_compare_sequence.ensures in
+    let full = encoded a.part.now a.packet.0 (timing_of a.timing) c.requires in
+    let first = ok-given c.encode_compare_sequence.result (e.result_value ∙ ap first_duty full) in
+    let told = sym c.unwrap.ensures ∙ first in
+    record { value = cc told; part_after = e.dma_output_after ∙ ap (filled (λ (s : Sequence). s.slots) a.part.now) full }
