@@ -1,6 +1,6 @@
 -- The tests of lists that the code makes are those of the definitions.
 -- Assumes nothing.
-use Rattle.std.specs.Prelude.{Option, Some, None, cond, if◌then◌else◌}
+use Rattle.std.specs.Prelude.{Some, None, cond, if◌then◌else◌}
 use Rattle.std.proofs.Common.{◌≡◌, ℕ, suc, ◌+◌, ◌<◌, ltb, length, Bool, true, false, not, ◌||◌, List, [], ◌∷◌, refl, ◌∙◌, arith}
 use borrow.Author.Tests.{ltb-true}
 use Rattle.std.specs.List as First

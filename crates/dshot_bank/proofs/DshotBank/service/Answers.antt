@@ -1,6 +1,6 @@
 -- `dshot_bank::DshotBank::service` meets its contract: what is served, with its orders.
 -- Assumes nothing.
-use Rattle.std.proofs.Common.{◌≡◌, Bool, List, true, length, eqb, sym, ap, ◌∙◌, eq-eqb}
+use Rattle.std.proofs.Common.{◌≡◌, Bool, List, true, length, sym, ap, ◌∙◌}
 use Rattle.dshot_bank_spec.specs.State.{Buffers}
 use Rattle.dshot_bank_spec.specs.Order.{Order}
 use Rattle.dshot_bank_spec.specs.Calls.{State, act, service_call}
