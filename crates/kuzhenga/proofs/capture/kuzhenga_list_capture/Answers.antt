@@ -25,8 +25,8 @@ overflow_cast-line_length c =
     let room = file-line-room _ line.result line.ensures in
     omega arith
 
-pub put_bytes-requires : goal.put_bytes-requires
-put_bytes-requires c =
+pub copy_from_slice-requires : goal.copy_from_slice-requires
+copy_from_slice-requires c =
     let room = file-line-room _ c.file_line-made.result c.file_line-made.ensures in
     c.if-line-ne-LINE_ROOM.false ∙ sym room.1
 
@@ -36,5 +36,5 @@ returns c =
     let made = c.file_line-made in
     let h = c.if-line_length-ne1.false in
     let all = given_both line_bytes count_slot _ _ (asked-so a.line.now 32 _ c.if-line-ne-LINE_ROOM.false ∙ asked-so a.line_length.now 1 _ h)
-    (c.put_bytes.ensures ∙ ap (λ (l : Line). l.bytes) made.ensures)
+    (c.copy_from_slice.ensures.after ∙ ap (λ (l : Line). l.bytes) made.ensures)
     (all_set a.line_length.now (made.result.length ∷ []) h ∙ ap (λ (l : Line). one l.length) made.ensures) in record { value = all.0; line_after = all.1.0; line_length_after = all.1.1 }

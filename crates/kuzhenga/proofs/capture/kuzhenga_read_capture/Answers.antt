@@ -36,24 +36,17 @@ returns-in-Ok c =
     let h = c.if-about-ne3.false in
     let e = sym (ap read_answer c.in-Ok.is) ∙ c.read_capture.ensures.result_value in
     let is = capture-of a.file.now a.samples.now _ e in
-    let count = c.in-Ok.count in
-    let mask = c.in-Ok.mask in
+    let count = c.in-Ok.capture.count in
+    let mask = c.in-Ok.capture.mask in
     let all = given-on (slots_of a.samples.now) capture_slots a.samples.now a.about.now 3 (read_into a.file.now a.samples.now)
     h c.read_capture.ensures.samples_after is.1
-    (all_set a.about.now (count ∷ mask ∷ c.flag_of.result ∷ []) h
-    ∙ ap (λ (n : ℕ). count ∷ mask ∷ n ∷ []) c.flag_of.ensures
+    (all_set a.about.now (count ∷ mask ∷ c.from.result ∷ []) h
+    ∙ ap (λ (n : ℕ). count ∷ mask ∷ n ∷ []) c.from.ensures
     ∙ told-slots is.0 _ is.2) in record { value = all.0; samples_after = all.1.0; about_after = all.1.1 }
 
-pub returns-in-NotACapture : goal.returns-in-NotACapture
-returns-in-NotACapture c =
+pub returns-in-Err : goal.returns-in-Err
+returns-in-Err c =
     let a = c.args in
-    let e = sym (ap read_answer c.in-NotACapture.is) ∙ c.read_capture.ensures.result_value in
+    let e = sym (ap read_answer c.in-Err.is) ∙ c.read_capture.ensures.result_value in
     let all = refused-on (slots_of a.samples.now) capture_slots a.samples.now a.about.now 3 (read_into a.file.now a.samples.now)
-    c.if-about-ne3.false c.read_capture.ensures.samples_after (then-refused _ _ (sym e)) in record { value = all.0; samples_after = all.1.0; about_after = all.1.1 }
-
-pub returns-in-WrongLength : goal.returns-in-WrongLength
-returns-in-WrongLength c =
-    let a = c.args in
-    let e = sym (ap read_answer c.in-WrongLength.is) ∙ c.read_capture.ensures.result_value in
-    let all = refused-on (slots_of a.samples.now) capture_slots a.samples.now a.about.now 3 (read_into a.file.now a.samples.now)
-    c.if-about-ne3.false c.read_capture.ensures.samples_after (then-refused _ _ (sym e)) in record { value = all.0; samples_after = all.1.0; about_after = all.1.1 }
+    c.if-about-ne3.false c.read_capture.ensures.samples_after (then-refused _ _ (sym e)) in record { value = c.number-in-Err.ensures ∙ c.from-in-Err.ensures ∙ all.0; samples_after = all.1.0; about_after = all.1.1 }

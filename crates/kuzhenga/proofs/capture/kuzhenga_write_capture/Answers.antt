@@ -32,9 +32,9 @@ returns-in-Ok c =
     let all = given-on (front a.file.now) count_slot a.file.now a.file_length.now 1 _ h c.write_capture.ensures.file_after is.1
     (all_set a.file_length.now (c.in-Ok.bytes ∷ []) h ∙ ap one (sym (same-given is.2))) in record { value = all.0; file_after = all.1.0; file_length_after = all.1.1 }
 
-pub returns-in-WrongLength : goal.returns-in-WrongLength
-returns-in-WrongLength c =
+pub returns-in-Err : goal.returns-in-Err
+returns-in-Err c =
     let a = c.args in
-    let e = sym c.write_capture.ensures.result_value ∙ ap written_answer c.in-WrongLength.is in
+    let e = sym c.write_capture.ensures.result_value ∙ ap written_answer c.in-Err.is in
     let all = refused-on (front a.file.now) count_slot a.file.now a.file_length.now 1 _ c.if-file_length-ne1.false c.write_capture.ensures.file_after
-    (then-refused _ _ e) in record { value = all.0; file_after = all.1.0; file_length_after = all.1.1 }
+    (then-refused _ _ e) in record { value = c.number-in-Err.ensures ∙ c.from.ensures ∙ all.0; file_after = all.1.0; file_length_after = all.1.1 }
