@@ -1,7 +1,7 @@
 -- Cycles of a bank, as the benchmark needs them. Each cycle is some calls of the bank, whose orders are added up. All cycles together leave a bank
 -- with its buffers, and a sum.
 -- Assumes nothing.
-use Rattle.std.specs.Prelude.{ℕ, zero, suc, ◌+◌, ◌*◌, ◌/◌, ◌%◌, ◌^◌, Bool, true, false, not, List, [], ◌∷◌, length, replicate, ◌==◌, nat_eq, slice_index, slice_index_or, if◌then◌else◌}
+use Rattle.std.specs.Prelude.{ℕ, zero, suc, fold, ◌+◌, ◌*◌, ◌/◌, ◌%◌, ◌^◌, Bool, true, false, not, List, [], ◌∷◌, length, replicate, ◌==◌, nat_eq, slice_index, slice_index_or, if◌then◌else◌}
 use Rattle.dshot_reply_spec.specs.Refusals.{wrong_length}
 use Rattle.dshot_reply_spec.specs.Answer as Reply
 use Rattle.dshot_reply_spec.specs.Value.{Reading, erpm, temp, volt, amp, debug, state, edt}
@@ -17,8 +17,7 @@ use Rattle.dshot_bank_spec.specs.OrderNumber.{duties_in}
 -- ---- the sum of the orders, modulo 2 ^ 32
 
 abbrev pub add_all : ℕ → List ℕ → ℕ
-add_all s [] = s
-add_all s (n ∷ ns) = add_all ((s + n) % 2 ^ 32) ns
+add_all s ns = fold (λ sum n. (sum + n) % 2 ^ 32) s ns
 
 -- the numbers of the first n orders in one number, seven bits each, the first lowest
 abbrev pub numbers_in : ℕ → ℕ → List ℕ

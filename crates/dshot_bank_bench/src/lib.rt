@@ -7,16 +7,14 @@ ghost use Rattle.dshot_spec.specs.Tabulate.{tabulate};
 ghost use Rattle.dshot_bank_spec.specs.State.{Buffers};
 ghost use Rattle.dshot_bank_spec.specs.Calls.{command_throttles_call, service_call, on_dma_interrupt_call};
 ghost use Rattle.dshot_bank.specs.States.{stored_answer, bank_of};
-ghost use Rattle.dshot_bank_bench.specs.Cycles.{add_all, numbers_in, after, past, fit, speed, count_at, asked, first_of, second_of, counts_of};
+ghost use Rattle.dshot_bank_bench.specs.Cycles.{add_all, numbers_in, after, past, speed, count_at, asked, first_of, second_of, counts_of};
 ghost use Rattle.dshot_bank_bench.specs.Runs.{run_of};
 ghost use Rattle.dshot_bank_bench.specs.Cycles as Spec;
 
 use dshot::{DshotTiming, MotorValues};
 use dshot_bank::orders::Orders;
-use dshot_bank::{DshotBank, LANES, StoredReply};
-
-// The samples of four windows.
-const WINDOWS: usize = 640;
+use dshot_bank::{DshotBank, LANES, SAMPLES, SLOTS, StoredReply};
+use dshot_reply::refusals::Refusal;
 
 const LEASE_MS: u32 = 10;
 
@@ -31,14 +29,11 @@ struct Run {
 fn add_orders(start: u32, orders: Orders) -> u32
     ensures { result ≡ add_all start (numbers_in orders.count orders.codes) }
 {
-    let count = orders.count;
     let mut codes = orders.codes;
     let mut sum = start;
-    let mut i = 0;
-    while i < count {
-        sum = std::num::wrapping_add_u32(sum, (codes % 128) as u32);
-        codes = codes / 128;
-        i += 1;
+    for _i in 0..orders.count {
+        sum = sum.wrapping_add((codes % 128) as u32);
+        codes /= 128;
     }
     sum
 }
@@ -46,10 +41,9 @@ fn add_orders(start: u32, orders: Orders) -> u32
 fn add_duties(sum: u32, duties: MotorValues) -> u32
     ensures { result ≡ add_all sum duties }
 {
-    let a = std::num::wrapping_add_u32(sum, duties[0] as u32);
-    let b = std::num::wrapping_add_u32(a, duties[1] as u32);
-    let c = std::num::wrapping_add_u32(b, duties[2] as u32);
-    std::num::wrapping_add_u32(c, duties[3] as u32)
+    duties
+        .iter()
+        .fold(sum, |sum: u32, duty| sum.wrapping_add(u32::from(*duty)))
 }
 
 impl Run {
@@ -57,23 +51,21 @@ impl Run {
     fn interrupt(self, lane: usize) -> Self
         ensures { (b : Buffers) → run_of result b ≡ after (run_of self b) (on_dma_interrupt_call lane true false true true) }
     {
-        let sum = self.sum;
         let done = self.bank.on_dma_interrupt(lane, true, false, true, true);
-        let bank = done.bank;
-        let orders = done.orders;
-        let sum = add_duties(add_orders(sum, orders), [0; LANES]);
-        Run { bank, sum }
+        Run {
+            bank: done.bank,
+            sum: add_duties(add_orders(self.sum, done.orders), [0; LANES]),
+        }
     }
 
     // Interrupts of one lane after the other.
+    #[tactic(auto, using(crate::proofs::CycleLaws::interrupts_more), unfolding(crate::specs::Cycles::interrupts))]
     fn interrupts(self, count: usize) -> Self
         ensures { (b : Buffers) → run_of result b ≡ Spec.interrupts count (run_of self b) }
     {
         let mut run = self;
-        let mut i = 0;
-        while i < count {
+        for i in 0..count {
             run = run.interrupt(i % LANES);
-            i += 1;
         }
         run
     }
@@ -82,10 +74,11 @@ impl Run {
     fn throttle(self, throttles: MotorValues, now_ms: u64) -> Self
         ensures { (b : Buffers) → run_of result b ≡ past (run_of self b) (command_throttles_call throttles now_ms 10) }
     {
-        let sum = self.sum;
         let throttled = self.bank.command_throttles(throttles, now_ms, LEASE_MS);
-        let bank = throttled.bank;
-        Run { bank, sum }
+        Run {
+            bank: throttled.bank,
+            ..self
+        }
     }
 
     // Sends a frame set. All buffers are taken. Every capture is present, or none is.
@@ -100,7 +93,6 @@ impl Run {
     ) -> Self
         ensures { ◌≡◌ {A = Spec.Run} (run_of result (record { first = first.exit.now; second = second.new })) (after (run_of self (record { first = first.entry.now; second = second.old })) (service_call now_ms (replicate 4 true) (replicate 4 present) (replicate 4 mask) captures.now)) }
     {
-        let sum = self.sum;
         let served = self.bank.service(
             now_ms,
             [true; LANES],
@@ -110,11 +102,10 @@ impl Run {
             second,
             captures,
         );
-        let bank = served.bank;
-        let orders = served.orders;
-        let duties = served.first_duties;
-        let sum = add_duties(add_orders(sum, orders), duties);
-        Run { bank, sum }
+        Run {
+            bank: served.bank,
+            sum: add_duties(add_orders(self.sum, served.orders), served.first_duties),
+        }
     }
 
     fn cycle(
@@ -137,6 +128,7 @@ impl Run {
 }
 
 // Makes some cycles, each with its own four throttles and four windows.
+#[tactic(auto, using(crate::proofs::CycleLaws::cycles_more), unfolding(crate::specs::Cycles::cycles))]
 fn cycles_from(
     start: Run,
     cycles: usize,
@@ -152,8 +144,7 @@ fn cycles_from(
     ensures { ◌≡◌ {A = Spec.Run} (run_of result (record { first = first.exit.now; second = second.new })) (Spec.cycles present mask interrupts throttles.now captures.now (run_of start (record { first = first.entry.now; second = second.old })) cycles) }
 {
     let mut run = start;
-    let mut n = 0;
-    while n < cycles {
+    for n in 0..cycles {
         let t = 4 * n;
         let four = [
             throttles[t],
@@ -161,19 +152,17 @@ fn cycles_from(
             throttles[t + 2],
             throttles[t + 3],
         ];
-        let from = WINDOWS * n;
-        let to = from + WINDOWS;
+        let from = SAMPLES * n;
         run = run.cycle(
             n as u64,
             four,
             present,
             mask,
             interrupts,
-            &captures[from..to],
+            &captures[from..from + SAMPLES],
             first,
             second,
         );
-        n += 1;
     }
     run
 }
@@ -184,29 +173,17 @@ fn speed_of(reply: StoredReply) -> u32
 {
     match reply {
         StoredReply::Erpm(erpm_div100) => erpm_div100,
-        StoredReply::Temperature(_) => 0,
-        StoredReply::Voltage(_) => 0,
-        StoredReply::Current(_) => 0,
-        StoredReply::Debug(_, _) => 0,
-        StoredReply::StateEvent(_) => 0,
-        StoredReply::ExtendedTelemetryEnabled => 0,
-        StoredReply::NoReply => 0,
-        StoredReply::Overlong => 0,
-        StoredReply::InvalidSymbol => 0,
-        StoredReply::Checksum => 0,
-        StoredReply::ZeroPeriod => 0,
+        _ => 0,
     }
 }
 
+#[tactic(auto, using(crate::proofs::CycleLaws::reply_at), unfolding(crate::specs::Cycles::count_at))]
 fn count_at(run: Run, i: usize) -> u32
     ensures { result ≡ count_at (bank_of run.bank) run.sum i }
 {
     let lane = i % LANES;
-    let bank = run.bank;
-    let stats = bank.core.stats;
-    let completions = stats.lane_completions;
-    let replies = bank.replies;
-    let reply = replies[lane];
+    let stats = run.bank.core.stats;
+    let reply = run.bank.replies[lane];
     let others = [
         stats.frames_started,
         stats.frames_completed,
@@ -214,14 +191,11 @@ fn count_at(run: Run, i: usize) -> u32
         run.sum,
     ];
     match i / LANES {
-        0 => completions[lane],
+        0 => stats.lane_completions[lane],
         1 => reply.valid,
         2 => reply.invalid,
         3 => reply.consecutive_invalid,
-        4 => {
-            let read = reply.reply;
-            speed_of(read)
-        }
+        4 => speed_of(reply.reply),
         _ => others[lane],
     }
 }
@@ -230,27 +204,9 @@ fn put_counts(run: Run, counts: &mut [u32])
     requires { length counts.old ≡ 24 }
     ensures { counts.new ≡ tabulate 24 (count_at (bank_of run.bank) run.sum) }
 {
-    let mut i = 0;
-    while i < 24 {
+    for i in 0..24 {
         counts[i] = count_at(run, i);
-        i += 1;
     }
-}
-
-fn lengths_fit(cycles: usize, throttles: usize, first: usize, second: usize, counts: usize) -> bool
-    requires { 640 * cycles ≤ 18446744073709551615 }
-    ensures { result ≡ fit cycles throttles first second counts }
-{
-    if throttles != 4 * cycles {
-        return false;
-    }
-    if first != 64 {
-        return false;
-    }
-    if second != 64 {
-        return false;
-    }
-    counts == 24
 }
 
 // A new bank with its timing. If the flag is not 0, it is bidirectional. Nothing is ordered yet.
@@ -270,12 +226,15 @@ fn new_run(
         reply_sample_arr,
     };
     let enabled = DshotBank::from_lanes(timing).enable_bidirectional(bidirectional != 0);
-    let bank = enabled.bank;
-    Run { bank, sum: 0 }
+    Run {
+        bank: enabled.bank,
+        sum: 0,
+    }
 }
 
 // Makes as many cycles of a new bank as there are captures for. Each cycle has 640 samples and four throttles. The call leaves the two buffers, and
 // 24 numbers of the bank. In a flag, 0 means no, and any other number means yes.
+#[tactic(auto, unfolding(crate::specs::Cycles::asked, crate::specs::Cycles::fit))]
 #[unsafe(no_mangle)]
 pub extern "C" fn bench_bank_cycles(
     arr: u16,
@@ -297,9 +256,13 @@ pub extern "C" fn bench_bank_cycles(
     ensures second_after { second.new ≡ filled second_of second.old (asked arr zero_high one_high reply_sample_arr bidirectional present mask interrupts throttles.now captures.now first.old second.old counts.old) }
     ensures counts_after { counts.new ≡ filled counts_of counts.old (asked arr zero_high one_high reply_sample_arr bidirectional present mask interrupts throttles.now captures.now first.old second.old counts.old) }
 {
-    let n = captures.len() / WINDOWS;
-    if !lengths_fit(n, throttles.len(), first.len(), second.len(), counts.len()) {
-        return 13;
+    let n = captures.len() / SAMPLES;
+    if throttles.len() != LANES * n
+        || first.len() != SLOTS
+        || second.len() != SLOTS
+        || counts.len() != 24
+    {
+        return Refusal::WrongLength.number();
     }
     let start = new_run(arr, zero_high, one_high, reply_sample_arr, bidirectional);
     let run = cycles_from(

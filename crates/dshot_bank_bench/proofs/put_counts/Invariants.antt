@@ -1,5 +1,4 @@
 -- `dshot_bank_bench::put_counts` meets its contract: before each turn of the loop the counts so far are put.
-use Rattle.std.proofs.Common.{◌-◌}
 use Rattle.dshot_spec.proofs.Tabulated.{Filled}
 use Rattle.dshot_bank.specs.States.{bank_of}
 use Rattle.dshot_bank_bench.specs.Cycles.{count_at}
@@ -7,6 +6,3 @@ use Rattle.dshot_bank_bench.proofs.put_counts.Given as goal
 
 abbrev pub invariant-loop-i : goal.invariant-loop-i
 invariant-loop-i l = Filled 24 (count_at (bank_of l.run.bank) l.run.sum) l.initial.counts l.i l.counts
-
-abbrev pub decreases-loop-i : goal.decreases-loop-i
-decreases-loop-i l = 24 - l.i
