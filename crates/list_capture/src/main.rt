@@ -7,122 +7,81 @@
 // If there is more than one argument, it says so on standard error and writes no line. It does the same if the file cannot be opened or read, and then
 // says why, as if the line cannot be written. Its exit status is always 0. So a script tests whether standard output is empty.
 //
-// If an input is longer than the buffer, it is cut at the buffer's end. It is refused with 17 (not a capture), as the whole input would be. The longest
-// file that holds a capture has 12294 bytes, and the buffer has 65536.
+// If an input is longer than 65536 bytes, the rest is not read. It is refused with 17 (not a capture), as the whole input would be. The longest file that
+// holds a capture has 12294 bytes.
 #![tactic(auto)]
 
-ghost use Rattle.std.specs.Prelude.{◌≡◌, ◌≤◌, length, take};
+ghost use Rattle.std.specs.Prelude.{◌≡◌, take, IfOk, IfSome};
 
 use capture_file::list::file_line;
 use std::env::{Env, FillError};
 use std::fs::File;
-use std::io::{Error, IsTerminal, Read};
+use std::io::{self, Error, IsTerminal, Read};
 use std::str;
 
-const MOST_BYTES: usize = 65536;
+const MOST_BYTES: u64 = 65536;
 
 // The most bytes of a name that are taken.
 const MOST_NAME: usize = 4096;
 
 fn main(rt: HostRuntime) {
-    let mut path = [0u8; MOST_NAME];
     if is_given(&rt, 2) {
         let _ = rt.eprintln("usage: list_capture [FILE]");
         return;
     }
+    let mut path = [0u8; MOST_NAME];
     match rt.arg(1, &mut path) {
         Ok(length) => list_argument(&rt, &path[..length]),
         Err(FillError::TooLong) => say(&rt, "FILE", "File name too long"),
-        Err(FillError::NotPresent) => list_standard_input(&rt),
+        Err(FillError::NotPresent) => list(&rt, "standard input", read_standard_input(&rt)),
     }
 }
 
-// Whether there is an argument of this number. The program's own name is number 0.
+// Whether there is an argument of this number. The program's own name is number 0. `env::args` would refuse all arguments if one is not UTF-8.
 fn is_given(rt: &impl Env, number: usize) -> bool {
-    match rt.arg(number, &mut []) {
-        Ok(_) => true,
-        Err(FillError::TooLong) => true,
-        Err(FillError::NotPresent) => false,
-    }
+    !matches!(rt.arg(number, &mut []), Err(FillError::NotPresent))
 }
 
 fn list_argument(rt: &HostRuntime, path: &[u8]) {
     match str::from_utf8(path) {
-        Ok(name) => list_path(rt, name),
+        Ok(name) => list(rt, name, read_file(rt, name)),
         Err(_) => say(rt, "FILE", "the name is not UTF-8"),
     }
 }
 
-fn list_path(rt: &HostRuntime, name: &str) {
-    match File::open(rt, name) {
-        Ok(mut file) => list(rt, &mut file, name),
-        Err(error) => fail(rt, name, error),
-    }
+fn read_file(rt: &HostRuntime, name: &str) -> io::Result<Vec<u8>> {
+    read_input(rt, &mut File::open(rt, name)?)
 }
 
-fn list_standard_input(rt: &HostRuntime) {
+fn read_standard_input(rt: &HostRuntime) -> io::Result<Vec<u8>> {
     let mut input = rt.stdin();
     if input.is_terminal() {
         let _ = rt.eprintln("list_capture: waiting for a capture file on standard input");
     }
-    list(rt, &mut input, "standard input");
+    read_input(rt, &mut input)
 }
 
-// Writes the line of the file that is open, or says why it cannot be read.
-fn list<R: Read>(rt: &HostRuntime, reader: &mut R, name: &str) {
-    let mut file = [0u8; MOST_BYTES];
-    let input = read_input(reader, &mut file);
-    match input.error {
-        Some(error) => fail(rt, name, error),
-        None => {
-            let length = input.length;
-            write_line(rt, &file[..length]);
-        }
+// Reads the first `MOST_BYTES` bytes of an input, or all if it has no more.
+fn read_input<R: Read>(rt: &HostRuntime, input: &mut R) -> io::Result<Vec<u8>>
+    ensures { IfOk result (λ file. IfSome (R.remaining input.old) (λ bytes. file.items ≡ take MOST_BYTES bytes)) }
+{
+    let mut file = Vec::new(rt.alloc());
+    input.take(MOST_BYTES).read_to_end(&mut file)?;
+    Ok(file)
+}
+
+// Writes the line of a file, or says why it could not be read.
+fn list(rt: &HostRuntime, name: &str, file: io::Result<Vec<u8>>) {
+    match file {
+        Ok(file) => write_line(rt, &file),
+        Err(error) => fail(rt, name, error),
     }
 }
 
 fn write_line(rt: &HostRuntime, file: &[u8]) {
     let line = file_line(file);
-    let bytes = line.bytes;
-    let length = line.length;
-    if let Err(error) = rt.write_all(&bytes[..length]) {
+    if let Err(error) = rt.write_all(&line.bytes[..line.length]) {
         fail(rt, "standard output", error);
-    }
-}
-
-// How many bytes at the start of a buffer were read, and why a read failed, if one did.
-#[derive(Clone, Copy)]
-struct Input {
-    length: usize,
-    error: Option<Error>,
-}
-
-// Reads until the buffer is full, the input ends or a read fails.
-fn read_input<R: Read>(reader: &mut R, buffer: &mut [u8]) -> Input
-    ensures in_bounds { result.«length» ≤ length buffer.new }
-    ensures is_prefix { result.«length» ≡ length (take result.«length» buffer.new) }
-{
-    let mut done = 0;
-    while done < buffer.len() {
-        match reader.read(&mut buffer[done..]) {
-            Ok(0) => {
-                return Input {
-                    length: done,
-                    error: None,
-                };
-            }
-            Ok(more) => done += more,
-            Err(error) => {
-                return Input {
-                    length: done,
-                    error: Some(error),
-                };
-            }
-        }
-    }
-    Input {
-        length: done,
-        error: None,
     }
 }
 
