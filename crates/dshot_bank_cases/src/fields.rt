@@ -1,101 +1,73 @@
 // Prints the fields of a bank.
 
-use crate::part::{MOST, Part};
-use crate::put::Out;
-use crate::{counts, motors, part, put, replies};
-use case_text::widths::{flag, wide8, wide16, wide32};
+use crate::part::of_motor;
+use crate::{counts, put, replies};
 use dshot::DshotTiming;
 use dshot_bank::{Demand, DshotBank, Frame, MotorRun, Requests};
+use std::io;
+use std::io::Write;
 
 // No call on a bank changes the timing. It is printed so that a call that changed it would be seen.
-fn of_timing(timing: DshotTiming) -> Part {
-    part::four(
-        wide16(timing.arr),
-        wide16(timing.zero_high),
-        wide16(timing.one_high),
-        wide16(timing.reply_sample_arr),
-    )
+fn of_timing(timing: DshotTiming) -> [u64; 4] {
+    [
+        u64::from(timing.arr),
+        u64::from(timing.zero_high),
+        u64::from(timing.one_high),
+        u64::from(timing.reply_sample_arr),
+    ]
 }
 
-// 0 if there is no lease. Otherwise 1 and the duration.
-fn of_lease(over_after: u64) -> Part {
-    if over_after == 0 {
-        return part::one(0);
-    }
-    part::two(1, over_after - 1)
-}
-
-// 0 if there is no run. Otherwise the motor and the run.
-fn of_run(run: MotorRun) -> Part {
-    match run {
-        MotorRun::None => part::one(0),
-        MotorRun::Some {
-            motor,
-            first,
-            second,
-            index,
-            repeats_left,
-        } => {
-            let mut list = [0; MOST];
-            list[0] = motors::of_motor(motor);
-            list[1] = wide16(first);
-            list[2] = wide16(second);
-            list[3] = wide8(index);
-            list[4] = wide8(repeats_left);
-            Part { count: 5, list }
-        }
+// The last number is 0 if there is no lease. Otherwise it is 1, and the duration follows.
+fn put_demand(out: &mut impl Write, demand: Demand) -> io::Result<()> {
+    put::numbers(out, &demand.requested_values.map(u64::from))?;
+    put::numbers(out, &[demand.lease_started_ms])?;
+    match demand.lease_over_after_ms.checked_sub(1) {
+        None => put::numbers(out, &[0]),
+        Some(duration) => put::numbers(out, &[1, duration]),
     }
 }
 
-fn of_frame(frame: Frame) -> Part {
-    let mut list = [0; MOST];
-    list[0] = frame.frame_started_ms;
-    list[1] = wide32(frame.completion_mask);
-    list[2] = flag(frame.busy);
-    list[3] = flag(frame.faulted);
-    list[4] = flag(frame.bidirectional);
-    list[5] = flag(frame.receiving);
-    list[6] = flag(frame.replies_waiting);
-    Part { count: 7, list }
+// The last number is 0 if there is no run. Otherwise the motor and the run follow.
+fn put_requests(out: &mut impl Write, requests: Requests) -> io::Result<()> {
+    let asked = of_motor(requests.telemetry_request);
+    let sent = of_motor(requests.telemetry_request_sent);
+    put::numbers(out, &[asked, sent])?;
+    let Some(MotorRun { motor, sequence }) = requests.command_sequence else {
+        return put::numbers(out, &[0]);
+    };
+    let [first, second] = sequence.commands.map(u64::from);
+    let index = u64::from(sequence.index);
+    let left = u64::from(sequence.repeats_left);
+    put::numbers(out, &[of_motor(Some(motor)), first, second, index, left])
 }
 
-// For each lane: the buffer from which it is sending.
-fn of_marks(frame: Frame) -> Part {
-    let marks = frame.in_second;
-    part::four(
-        flag(marks[0]),
-        flag(marks[1]),
-        flag(marks[2]),
-        flag(marks[3]),
-    )
+fn of_frame(frame: Frame) -> [u64; 7] {
+    [
+        frame.frame_started_ms,
+        u64::from(frame.completion_mask),
+        u64::from(frame.busy),
+        u64::from(frame.faulted),
+        u64::from(frame.bidirectional),
+        u64::from(frame.receiving),
+        u64::from(frame.replies_waiting),
+    ]
 }
 
-fn put_demand(out: &mut Out, at: usize, demand: Demand) -> usize {
-    let values = demand.requested_values;
-    let valued = put::part(out, at, part::of_values(values));
-    let started = put::number(out, valued, demand.lease_started_ms);
-    put::part(out, started, of_lease(demand.lease_over_after_ms))
-}
-
-fn put_requests(out: &mut Out, at: usize, requests: Requests) -> usize {
-    let request = requests.telemetry_request;
-    let sent = requests.telemetry_request_sent;
-    let run = requests.command_sequence;
-    let requested = put::number(out, at, motors::of_choice(request));
-    let told = put::number(out, requested, motors::of_choice(sent));
-    put::part(out, told, of_run(run))
-}
-
-// The replies and their counts are printed as the bank's own calls show them.
-pub(crate) fn put_fields(out: &mut Out, at: usize, bank: DshotBank) -> usize {
+// The replies and their counts are printed as the bank's own calls show them. The last numbers are, for each lane, the buffer from which it is sending.
+pub(crate) fn put_fields(out: &mut impl Write, bank: DshotBank) -> io::Result<()> {
     let core = bank.core;
-    let frame = core.frame;
-    let timed = put::part(out, at, of_timing(core.timing));
-    let demanded = put_demand(out, timed, core.demand);
-    let requested = put_requests(out, demanded, core.requests);
-    let framed = put::part(out, requested, of_frame(frame));
-    let replied = put::part(out, framed, replies::of_taken(bank.take_replies()));
-    let counted = put::part(out, replied, counts::of_stats(core.stats));
-    let heard = put::part(out, counted, counts::of_reply_stats(bank.reply_stats()));
-    put::part(out, heard, of_marks(frame))
+    put::numbers(out, &of_timing(core.timing))?;
+    put_demand(out, core.demand)?;
+    put_requests(out, core.requests)?;
+    put::numbers(out, &of_frame(core.frame))?;
+    put::numbers(
+        out,
+        replies::of_taken(bank.take_replies().replies).as_slice(),
+    )?;
+    put::numbers(out, &counts::of_stats(core.stats))?;
+    put::numbers(
+        out,
+        counts::of_reply_stats(bank.reply_stats()).as_flattened(),
+    )?;
+    put::numbers(out, &core.frame.in_second.map(u64::from))
 }

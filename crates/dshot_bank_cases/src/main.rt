@@ -6,72 +6,58 @@
 #![tactic(auto)]
 
 mod calls;
-mod capture;
 mod counts;
 mod demands;
 mod fields;
 mod interrupts;
 mod line;
 mod looks;
-mod motors;
 mod numbers;
 mod orders;
 mod outcome;
 mod part;
 mod put;
-mod refusals;
 mod replies;
 mod services;
 mod sets;
 mod slots;
-mod widths;
 
-use crate::slots::ROOM;
 use case_text::input::read_full;
-use case_text::numbers::find;
-use case_text::widths::one_more;
+use dshot::DshotTiming;
 use dshot_bank::DshotBank;
 use std::io;
-use std::io::Stdout;
+use std::io::{BufWriter, Write};
 
 const MOST_BYTES: usize = 65536;
 
-fn run_list(to: Stdout, text: &[u8]) -> io::Result<()> {
-    let mut bank = DshotBank::from_lanes(demands::timing(0, 0, 0, 0));
-    let mut first = [0u16; ROOM];
-    let mut second = [0u16; ROOM];
-    let mut out = put::buffer(to);
-    let mut filled: usize = 0;
-    let mut number: u64 = 0;
-    let mut at: usize = 0;
-    while at < text.len() {
-        let end = find(text, at, b'\n');
-        let next = end + 1;
-        number = one_more(number);
-        let done = line::run(
-            &text[at..end],
-            bank,
-            &mut first,
-            &mut second,
-            &mut out,
-            filled,
-        );
-        filled = done.filled;
-        if !done.is_readable {
-            filled = put::unreadable(&mut out, filled, number);
+// What is printed goes through a buffer of so many bytes, so that a list takes few writes.
+const MOST_PRINTED: usize = 65536;
+
+fn run_list(out: &mut impl Write, text: &[u8]) -> io::Result<()> {
+    let mut bank = DshotBank::from_lanes(DshotTiming {
+        arr: 0,
+        zero_high: 0,
+        one_high: 0,
+        reply_sample_arr: 0,
+    });
+    let mut buffers = slots::zeros();
+    for (number, line) in (1u64..).zip(text.split_inclusive(|byte| *byte == b'\n')) {
+        let line = line.strip_suffix(b"\n").unwrap_or(line);
+        let Some(after) = line::run(out, line, bank, &mut buffers)? else {
+            writeln!(out, "unreadable line {number}")?;
             break;
-        }
-        bank = done.bank;
-        at = next;
+        };
+        bank = after;
     }
-    put::finish(&mut out, filled)
+    out.flush()
 }
 
 fn main(rt: HostRuntime) -> io::Result<()> {
-    let mut text = [0u8; MOST_BYTES];
+    let mut text = [0; MOST_BYTES];
     let n = read_full(&mut rt.stdin(), &mut text)?;
     if n == text.len() {
         return rt.println("list too long");
     }
-    run_list(rt.stdout(), &text[..n])
+    let mut out = BufWriter::with_capacity(rt.alloc(), MOST_PRINTED, rt.stdout())?;
+    run_list(&mut out, &text[..n])
 }

@@ -1,52 +1,34 @@
-// The numbers of a part of a line.
+// The numbers of an answer.
 
-use case_text::widths::wide16;
-use dshot::MotorValues;
+ghost use Rattle.std.specs.Prelude.{◌≡◌, ◌≤◌, length};
+ghost use Rattle.arrayvec.specs.ArrayVec.{array_vec_len};
 
-// The most numbers of a part: those of a view.
-pub const MOST: usize = 17;
+use arrayvec::ArrayVec;
+use case_text::answers::Answer;
+use dshot_bank::DshotMotor;
+use dshot_reply::refusals::Refusal;
 
-// The first `count` numbers of the list count. The rest are 0.
-#[derive(Clone, Copy)]
-pub struct Part {
-    pub count: usize,
-    pub list: [u64; MOST],
+// The most numbers of an answer: those of a view.
+const MOST: usize = 17;
+
+pub type Part = ArrayVec<u64, MOST>;
+
+pub(crate) fn of(numbers: &[u64]) -> Part
+    requires { length numbers.now ≤ 17 }
+    ensures { array_vec_len result ≡ length numbers.now }
+{
+    let mut part = Part::new();
+    part.try_extend_from_slice(numbers).unwrap();
+    part
 }
 
-pub(crate) fn none() -> Part {
-    Part {
-        count: 0,
-        list: [0; MOST],
-    }
+// The number of a refusal and 0, or 0 and the number of an event.
+pub(crate) fn of_event<E: Into<Refusal>>(event: Result<u64, E>) -> [u64; 2] {
+    let answer = Answer::from(event.map(|number| [number]));
+    [answer.refusal, answer.numbers[0]]
 }
 
-pub(crate) fn one(a: u64) -> Part {
-    let mut list = [0; MOST];
-    list[0] = a;
-    Part { count: 1, list }
-}
-
-pub(crate) fn two(a: u64, b: u64) -> Part {
-    let mut list = [0; MOST];
-    list[0] = a;
-    list[1] = b;
-    Part { count: 2, list }
-}
-
-pub(crate) fn four(a: u64, b: u64, c: u64, d: u64) -> Part {
-    let mut list = [0; MOST];
-    list[0] = a;
-    list[1] = b;
-    list[2] = c;
-    list[3] = d;
-    Part { count: 4, list }
-}
-
-pub(crate) fn of_values(values: MotorValues) -> Part {
-    four(
-        wide16(values[0]),
-        wide16(values[1]),
-        wide16(values[2]),
-        wide16(values[3]),
-    )
+// 0 if there is none, else the lane + 1.
+pub(crate) fn of_motor(motor: Option<DshotMotor>) -> u64 {
+    motor.map_or(0, |motor| motor as u64 + 1)
 }

@@ -1,98 +1,50 @@
 // Makes the call of code 8: a service.
 
-ghost use Rattle.std.specs.Prelude.{◌≤◌, length};
-
-use crate::capture::MOST_SAMPLES;
-use crate::numbers::all_up_to;
+use crate::numbers::flags;
 use crate::outcome::Outcome;
-use crate::part::Part;
-use crate::refusals::WRONG_LENGTH;
-use crate::widths::{MOST_16, four_flags, four_words};
-use crate::{capture, outcome, part};
+use crate::part;
+use crate::part::of_event;
+use crate::slots::{Buffers, ROOM};
+use case_text::captures::unroll;
 use dshot_bank::DshotBank;
-use dshot_bank::service::{DshotServiceEvent, Service};
+use dshot_bank::service::Served;
 
-fn of_event(event: DshotServiceEvent) -> u64 {
-    match event {
-        DshotServiceEvent::FrameStarted => 1,
-        DshotServiceEvent::Busy => 2,
-        DshotServiceEvent::LeaseExpired => 3,
-        DshotServiceEvent::Faulted => 4,
-    }
-}
-
-fn of_answer(answer: Service) -> Part {
-    match answer {
-        Service::Event(event) => part::two(0, of_event(event)),
-        Service::WrongLength => part::two(WRONG_LENGTH, 0),
-    }
-}
-
-// Whether the hardware's answers are in range: flags, and masks.
-fn is_readable(given: &[u64]) -> bool
-    requires { 17 ≤ length given.now }
-{
-    if !all_up_to(&given[1..9], 1) {
-        return false;
-    }
-    all_up_to(&given[9..13], MOST_16)
-}
-
-fn serve(
-    given: &[u64],
-    bank: DshotBank,
-    first: &mut [u16],
-    second: &mut [u16],
-    captures: &[u16],
-) -> Outcome
-    requires { 17 ≤ length given.now }
-{
-    let taken = four_flags(given[1], given[2], given[3], given[4]);
-    let present = four_flags(given[5], given[6], given[7], given[8]);
-    let masks = four_words(given[9], given[10], given[11], given[12]);
-    let served = bank.service(given[0], taken, present, masks, first, second, captures);
-    let answer = served.answer;
-    let orders = served.orders;
-    let first_duties = served.first_duties;
-    outcome::ordered(of_answer(answer), orders, first_duties, served.bank)
-}
+const MOST_SAMPLES: usize = 700;
 
 // 8 NOW TAKEN*4 PRESENT*4 MASK*4 FIRST SECOND CAPTURES RUNS (SAMPLE TIMES)*RUNS
 //
-// Lends as much of each buffer as the line says, which is no more than there is.
-pub(crate) fn service(
-    given: &[u64],
-    bank: DshotBank,
-    first: &mut [u16],
-    second: &mut [u16],
-) -> Outcome {
-    if given.len() < 17 {
-        return outcome::unreadable(bank);
-    }
-    if !is_readable(given) {
-        return outcome::unreadable(bank);
-    }
-    if given[13] > first.len() as u64 {
-        return outcome::unreadable(bank);
-    }
-    if given[14] > second.len() as u64 {
-        return outcome::unreadable(bank);
-    }
-    if given[15] > MOST_SAMPLES as u64 {
-        return outcome::unreadable(bank);
-    }
-    let in_first = given[13] as usize;
-    let in_second = given[14] as usize;
-    let samples = given[15] as usize;
-    let mut captures = [0u16; MOST_SAMPLES];
-    if !capture::unroll(&mut captures, samples, &given[17..], given[16]) {
-        return outcome::unreadable(bank);
-    }
-    serve(
-        given,
+// Lends as much of each buffer as the line says, which is no more than there is. The samples after the runs are zeros. The events count from 1, in the
+// source's order.
+pub(crate) fn service(given: &[u64], bank: DshotBank, buffers: &mut Buffers) -> Option<Outcome> {
+    let [now_ms, answers @ ..] = given else {
+        return None;
+    };
+    let (taken, answers) = answers.split_first_chunk::<4>()?;
+    let (present, answers) = answers.split_first_chunk::<4>()?;
+    let (masks, lengths) = answers.split_first_chunk::<4>()?;
+    let [in_first, in_second, samples, stated, runs @ ..] = lengths else {
+        return None;
+    };
+    let taken = flags(*taken)?;
+    let present = flags(*present)?;
+    let masks = masks.try_map(u16::try_from).ok()?;
+    let mut captures = [0; MOST_SAMPLES];
+    let captures = captures.get_mut(..*samples as usize)?;
+    unroll(runs, *stated, captures)?;
+    let (first, second) = buffers.as_flattened_mut().split_at_mut(ROOM);
+    let first = first.get_mut(..*in_first as usize)?;
+    let second = second.get_mut(..*in_second as usize)?;
+    let Served {
+        answer,
+        orders,
+        first_duties,
         bank,
-        &mut first[0..in_first],
-        &mut second[0..in_second],
-        capture::lent(&captures, samples),
-    )
+    } = bank.service(*now_ms, taken, present, masks, first, second, captures);
+    let event = answer.map(|event| event as u64 + 1);
+    Some(Outcome {
+        answer: part::of(&of_event(event)),
+        orders,
+        first_duties,
+        bank,
+    })
 }
