@@ -8,7 +8,7 @@ use Rattle.dshot_reply.proofs.Injective.{answer-injective}
 use Rattle.dshot_reply_spec.specs.Answer.{pick}
 use Rattle.dshot_reply_spec.specs.Refusals.{not_acapture}
 use Rattle.capture_file.specs.File.{Told}
-use Rattle.capture_file.specs.FileAnswers.{error_number, capture_told, read_answer, written_answer}
+use Rattle.capture_file.specs.FileAnswers.{capture_error_number, capture_told, read_answer, written_answer}
 use Rattle.capture_file.specs.declared.file.Capture.{Capture}
 use Rattle.capture_file.specs.declared.file.CaptureError.{CaptureError}
 use Rattle.capture_file.specs.declared.file.CaptureError.TheVariants.{NotACapture, WrongLength}
@@ -16,7 +16,7 @@ use Rattle.capture_file.specs.declared.file.CaptureError.TheVariants.{NotACaptur
 error_of : ℕ → CaptureError
 error_of n = pick (eqb n not_acapture) NotACapture WrongLength
 
-error-back : (e : CaptureError) → error_of (error_number e) ≡ e
+error-back : (e : CaptureError) → error_of (capture_error_number e) ≡ e
 unfolding error_of
 error-back NotACapture = refl
 error-back WrongLength = refl
@@ -29,7 +29,7 @@ unfolding told_of
 told-back c = refl
 
 pub read_answer-injective : (r s : Result Capture CaptureError) → read_answer r ≡ read_answer s → r ≡ s
-read_answer-injective = answer-injective capture_told told_of error_number error_of told-back error-back
+read_answer-injective = answer-injective capture_told told_of capture_error_number error_of told-back error-back
 
 pub written_answer-injective : (w x : Result ℕ CaptureError) → written_answer w ≡ written_answer x → w ≡ x
-written_answer-injective = answer-injective (λ n. n) (λ n. n) error_number error_of (λ n. refl) error-back
+written_answer-injective = answer-injective (λ n. n) (λ n. n) capture_error_number error_of (λ n. refl) error-back

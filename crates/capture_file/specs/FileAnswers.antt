@@ -10,9 +10,9 @@ use Rattle.capture_file.specs.declared.file.CaptureError.{CaptureError}
 use Rattle.capture_file.specs.declared.file.CaptureError.TheVariants.{NotACapture, WrongLength}
 
 -- the number of each refusal
-abbrev pub error_number : CaptureError → ℕ
-error_number NotACapture = not_acapture
-error_number WrongLength = wrong_length
+abbrev pub capture_error_number : CaptureError → ℕ
+capture_error_number NotACapture = not_acapture
+capture_error_number WrongLength = wrong_length
 
 -- what a file holds besides its samples
 abbrev pub capture_told : Capture → Told
@@ -20,8 +20,8 @@ capture_told c = record { count = c.count; mask = c.mask; edt = c.extended_telem
 
 -- what the reader answers for a capture
 abbrev pub read_answer : Result Capture CaptureError → Answer Told
-read_answer = answer capture_told error_number
+read_answer = answer capture_told capture_error_number
 
 -- the length of the file that was written, or the refusal
 abbrev pub written_answer : Result ℕ CaptureError → Answer ℕ
-written_answer = answer (λ n. n) error_number
+written_answer = answer (λ n. n) capture_error_number

@@ -5,7 +5,7 @@ ghost use Rattle.dshot_reply.specs.Refusals.{refusal_number};
 ghost use Rattle.dshot_reply_spec.specs.Answer.{given, and_then, is_given, filled};
 ghost use Rattle.capture_file.specs.Groups.{read_all};
 ghost use Rattle.capture_file.specs.File.{all_groups, capture, read_head, front, slots_of, read_into, written_into, told, byte_count};
-ghost use Rattle.capture_file.specs.FileAnswers.{error_number, read_answer, written_answer};
+ghost use Rattle.capture_file.specs.FileAnswers.{capture_error_number, read_answer, written_answer};
 ghost use Rattle.capture_file.specs.FileSteps.{put, head_answer};
 
 use crate::number::{put_number, read_number};
@@ -34,7 +34,7 @@ pub enum CaptureError {
 }
 
 impl From<CaptureError> for Refusal {
-    ghost from_gives = { λ e r. refusal_number r ≡ error_number e };
+    ghost from_gives = { λ e r. refusal_number r ≡ capture_error_number e };
 
     fn from(error: CaptureError) -> Refusal {
         match error {

@@ -14,8 +14,8 @@ use dshot_reply::{DshotReply, DshotReplyError, decode_gcr, reply_transitions};
 // Room for a line: no line has more than 29 bytes.
 pub const LINE_ROOM: usize = 32;
 
-// The bytes of a line, zeros after them, and the number of its bytes. It is no `ArrayVec`, since C gets all 32 bytes: a copy of fewer is a call of
-// memcpy, and the archive needs memset alone.
+// The bytes of a line, zeros after them, and the number of its bytes. C gets all 32 bytes. With an `ArrayVec`, or with `write!`, the archive would need
+// memcpy, and it needs memset alone.
 #[derive(Clone, Copy, Debug, PartialEq, Eq)]
 pub struct Line {
     pub bytes: [u8; LINE_ROOM],
