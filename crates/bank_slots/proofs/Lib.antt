@@ -1,0 +1,10 @@
+pub mod Any
+pub mod Copied
+pub mod Lanes
+pub mod NewBank
+pub mod Parts
+pub mod Sent
+pub mod Told
+pub mod Unfit
+pub mod View
+pub mod Windows

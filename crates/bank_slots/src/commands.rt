@@ -4,117 +4,97 @@
 //
 // The calls that make a bank and command it: demands, runs of special commands, and telemetry requests.
 
-ghost use Rattle.std.specs.Prelude.{◌≡◌, ◌<◌, true, length, nat_lt, if◌then◌else◌};
+ghost use Rattle.std.specs.Prelude.{◌≡◌, true, nat_lt, if◌then◌else◌};
+ghost use Rattle.std.specs.List.{list_any};
 ghost use Rattle.dshot_reply_spec.specs.Refusals.{wrong_length};
-ghost use Rattle.dshot_bank_spec.specs.Lanes.{any};
+ghost use Rattle.dshot_reply.specs.Refusals.{status_number};
 ghost use Rattle.dshot_bank_spec.specs.State.{Buffers};
 ghost use Rattle.dshot_bank_spec.specs.Commands.{from_lanes, is_running};
 ghost use Rattle.dshot_bank_spec.specs.Calls as Call;
 ghost use Rattle.bank_slots_spec.specs.Memory.{at};
-ghost use Rattle.bank_slots_spec.specs.Places.{slots};
 ghost use Rattle.bank_slots_spec.specs.Load.{choice, timing_at, load};
 ghost use Rattle.bank_slots_spec.specs.Store.{store};
 ghost use Rattle.bank_slots_spec.specs.Moves.{Moves, on_core};
 ghost use Rattle.bank_slots_spec.specs.Called.{Called, fit, sized, state_at, answer_of, number};
 ghost use Rattle.bank_slots_spec.specs.Outs.{motor_slots, out_after};
 ghost use Rattle.bank_slots_spec.specs.Arguments.{run_given};
-ghost use Rattle.bank_slots_spec.specs.Parts.{demanded, queued};
+ghost use Rattle.bank_slots_spec.specs.Parts.{demanded};
 
-use crate::memory::{flag, joined_long, long_at, put_long, zero};
-use crate::numbers::REFUSED;
-use crate::steps::{clear_request, clear_sent, put_run, run_from, stop};
+use crate::memory::{flag, joined_long, long_at, put_long};
+use crate::replies::stored_kind;
+use crate::steps::{put_run, run_from, stop};
 use crate::{
-    BIDIRECTIONAL, FAULTED, LEASE_OVER, LEASE_STARTED, REPLIES, REQUEST, REQUEST_SENT, RUN, SLOTS,
-    VALUES,
+    BIDIRECTIONAL, FAULTED, LEASE_OVER, LEASE_STARTED, PER_LANE, REPLIES, REQUEST, REQUEST_SENT,
+    RUN, SLOTS, VALUES,
 };
 use dshot_bank::{DSHOT_COMMAND_MAX, LANES};
-use dshot_reply::refusals::{
-    BANK_FAULTED, COMMAND_PENDING, MOTORS_RUNNING, NO_REPLY, NO_SUCH_MOTOR, REPLIES_UNSUPPORTED,
-    TELEMETRY_PENDING, THROTTLE_OUT_OF_RANGE, WRONG_LENGTH,
-};
-
-// The stored reply of a lane whose window was never read.
-const STORED_NO_REPLY: u16 = REFUSED + NO_REPLY as u16;
+use dshot_reply::DshotReplyError;
+use dshot_reply::refusals::Refusal;
 
 // ---- a new bank
 
 // Makes a new bank with a timing. The first lent buffer is current, and the second is spare.
-pub fn from_lanes(timing: &[u16], bank: &mut [u16]) -> u32
-    ensures value { result ≡ (if fit bank.old (sized 4 timing.now) then 0 else wrong_length) }
+pub fn from_lanes(timing: &[u16], bank: &mut [u16]) -> Result<(), Refusal>
+    ensures value { status_number result ≡ (if fit bank.old (sized 4 timing.now) then 0 else wrong_length) }
     ensures bank_after { bank.new ≡ (if fit bank.old (sized 4 timing.now) then store (from_lanes 4 (timing_at (at timing.now))) else bank.old) }
 {
-    if bank.len() != SLOTS {
-        return WRONG_LENGTH;
+    let state = bank.as_mut_array::<SLOTS>().ok_or(Refusal::WrongLength)?;
+    let timing = timing.as_array::<4>().ok_or(Refusal::WrongLength)?;
+    state.fill(0);
+    state[..VALUES].copy_from_slice(timing);
+    // No lane's window was ever read.
+    let no_reply = stored_kind(Err(DshotReplyError::NoReply));
+    for lane in 0..LANES {
+        state[REPLIES + PER_LANE * lane] = no_reply;
     }
-    if timing.len() != 4 {
-        return WRONG_LENGTH;
-    }
-    zero(bank);
-    bank[0] = timing[0];
-    bank[1] = timing[1];
-    bank[2] = timing[2];
-    bank[3] = timing[3];
-    bank[REPLIES] = STORED_NO_REPLY;
-    bank[REPLIES + 9] = STORED_NO_REPLY;
-    bank[REPLIES + 18] = STORED_NO_REPLY;
-    bank[REPLIES + 27] = STORED_NO_REPLY;
-    0
+    Ok(())
 }
 
 // Switches to bidirectional DShot. It is meant for the time before the first frame, but a later call is not refused. Refused if a lane cannot receive
 // replies.
-pub fn enable_bidirectional(bank: &mut [u16], receives_replies: bool) -> u32
-    ensures value { (b : Buffers) → result ≡ number (answer_of (fit bank.old true) (state_at bank.old b) (Call.enable_bidirectional_call receives_replies)) }
-    ensures called { (b : Buffers) → Called (fit bank.old true) (Call.enable_bidirectional_call receives_replies) b bank.old bank.new result }
+pub fn enable_bidirectional(bank: &mut [u16], receives_replies: bool) -> Result<(), Refusal>
+    ensures value { (b : Buffers) → status_number result ≡ number (answer_of (fit bank.old true) (state_at bank.old b) (Call.enable_bidirectional_call receives_replies)) }
+    ensures called { (b : Buffers) → Called (fit bank.old true) (Call.enable_bidirectional_call receives_replies) b bank.old bank.new (status_number result) }
 {
-    if bank.len() != SLOTS {
-        return WRONG_LENGTH;
-    }
+    let state = bank.as_mut_array::<SLOTS>().ok_or(Refusal::WrongLength)?;
     if !receives_replies {
-        return REPLIES_UNSUPPORTED;
+        return Err(Refusal::RepliesUnsupported);
     }
-    bank[BIDIRECTIONAL] = 1;
-    0
+    state[BIDIRECTIONAL] = 1;
+    Ok(())
 }
 
 // ---- demands
 
-pub fn command_stop(bank: &mut [u16]) -> u32
-    ensures value { (b : Buffers) → result ≡ number (answer_of (fit bank.old true) (state_at bank.old b) Call.command_stop_call) }
-    ensures called { (b : Buffers) → Called (fit bank.old true) Call.command_stop_call b bank.old bank.new result }
+pub fn command_stop(bank: &mut [u16]) -> Result<(), Refusal>
+    ensures value { (b : Buffers) → status_number result ≡ number (answer_of (fit bank.old true) (state_at bank.old b) Call.command_stop_call) }
+    ensures called { (b : Buffers) → Called (fit bank.old true) Call.command_stop_call b bank.old bank.new (status_number result) }
 {
-    if bank.len() != SLOTS {
-        return WRONG_LENGTH;
-    }
-    stop(bank);
-    0
+    let state = bank.as_mut_array::<SLOTS>().ok_or(Refusal::WrongLength)?;
+    stop(state);
+    Ok(())
 }
 
 pub(crate) fn any_above(values: &[u16], most: u16) -> bool
-    requires { length values.now ≡ 4 }
-    ensures { result ≡ any (nat_lt most) values.now }
+    ensures { result ≡ list_any (nat_lt most) values.now }
 {
-    for lane in 0..LANES {
-        if values[lane] > most {
-            return true;
-        }
-    }
-    false
+    values.iter().any(|value| *value > most)
 }
 
-fn demand(bank: &mut [u16], commands: &[u16], now_ms: u64, lease_duration_ms: u32)
-    requires { (length bank.old ≡ slots) × (length commands.now ≡ 4) }
-    ensures { Moves (on_core (demanded commands.now now_ms lease_duration_ms)) bank.old bank.new }
+fn demand(state: &mut [u16; SLOTS], commands: &[u16; LANES], now_ms: u64, lease_duration_ms: u32)
+    ensures { Moves (on_core (demanded commands.now now_ms lease_duration_ms)) state.old state.new }
 {
-    let values = dshot::throttles_to_dshot([commands[0], commands[1], commands[2], commands[3]]);
+    // Each is read by itself, as in the test before this: the compiler then knows that it is at most 2000.
+    let [a, b, c, d] = *commands;
+    let values = dshot::throttles_to_dshot([a, b, c, d]);
     // The four values are stored at once. A service reads them in one load, which would have to wait for several stores.
     put_long(
-        bank,
+        state,
         VALUES,
         joined_long(values[0], values[1], values[2], values[3]),
     );
-    put_long(bank, LEASE_STARTED, now_ms);
-    put_long(bank, LEASE_OVER, lease_duration_ms as u64 + 1);
+    put_long(state, LEASE_STARTED, now_ms);
+    put_long(state, LEASE_OVER, u64::from(lease_duration_ms) + 1);
 }
 
 // Requests the throttles of the four motors, each up to 2000, for a lease.
@@ -123,140 +103,109 @@ pub fn command_throttles(
     commands: &[u16],
     now_ms: u64,
     lease_duration_ms: u32,
-) -> u32
-    ensures value { (b : Buffers) → result ≡ number (answer_of (fit bank.old (sized 4 commands.now)) (state_at bank.old b) (Call.command_throttles_call commands.now now_ms lease_duration_ms)) }
-    ensures called { (b : Buffers) → Called (fit bank.old (sized 4 commands.now)) (Call.command_throttles_call commands.now now_ms lease_duration_ms) b bank.old bank.new result }
+) -> Result<(), Refusal>
+    ensures value { (b : Buffers) → status_number result ≡ number (answer_of (fit bank.old (sized 4 commands.now)) (state_at bank.old b) (Call.command_throttles_call commands.now now_ms lease_duration_ms)) }
+    ensures called { (b : Buffers) → Called (fit bank.old (sized 4 commands.now)) (Call.command_throttles_call commands.now now_ms lease_duration_ms) b bank.old bank.new (status_number result) }
 {
-    if bank.len() != SLOTS {
-        return WRONG_LENGTH;
-    }
-    if commands.len() != LANES {
-        return WRONG_LENGTH;
-    }
-    if flag(bank[FAULTED]) {
-        return BANK_FAULTED;
+    let state = bank.as_mut_array::<SLOTS>().ok_or(Refusal::WrongLength)?;
+    let commands = commands.as_array::<LANES>().ok_or(Refusal::WrongLength)?;
+    if flag(state[FAULTED]) {
+        return Err(Refusal::BankFaulted);
     }
     if any_above(commands, DSHOT_COMMAND_MAX) {
-        return THROTTLE_OUT_OF_RANGE;
+        return Err(Refusal::ThrottleOutOfRange);
     }
     if !any_above(commands, 0) {
-        stop(bank);
-        return 0;
+        stop(state);
+        return Ok(());
     }
-    demand(bank, commands, now_ms, lease_duration_ms);
-    0
+    demand(state, commands, now_ms, lease_duration_ms);
+    Ok(())
 }
 
 // ---- runs of commands
 
-fn is_running(bank: &[u16]) -> bool
-    requires { length bank.now ≡ slots }
-    ensures { result ≡ is_running (load bank.now).core.demand }
+fn is_running(state: &[u16; SLOTS]) -> bool
+    ensures { result ≡ is_running (load state.now).core.demand }
 {
-    if long_at(bank, LEASE_OVER) != 0 {
-        return true;
-    }
-    any_above(&bank[VALUES..VALUES + LANES], 0)
-}
-
-fn queue(bank: &mut [u16], motor: usize, sequence: &[u16])
-    requires { (length bank.old ≡ slots) × (length sequence.now ≡ 4) × (motor < 4) }
-    ensures { Moves (on_core (queued motor (run_given sequence.now))) bank.old bank.new }
-{
-    put_run(bank, motor, run_from(sequence, 0));
+    long_at(state, LEASE_OVER) != 0 || any_above(&state[VALUES..LEASE_STARTED], 0)
 }
 
 // Queues a run of special-command frames for one motor, such as a spin direction change and save. The run takes four slots.
 //
 // Refused unless every motor is stopped with no command lease, so a command frame never replaces a throttle frame on a spinning motor.
-pub fn command_special(bank: &mut [u16], motor: usize, sequence: &[u16]) -> u32
-    ensures value { (b : Buffers) → result ≡ number (answer_of (fit bank.old (sized 4 sequence.now)) (state_at bank.old b) (Call.command_special_call motor (run_given sequence.now))) }
-    ensures called { (b : Buffers) → Called (fit bank.old (sized 4 sequence.now)) (Call.command_special_call motor (run_given sequence.now)) b bank.old bank.new result }
+pub fn command_special(bank: &mut [u16], motor: usize, sequence: &[u16]) -> Result<(), Refusal>
+    ensures value { (b : Buffers) → status_number result ≡ number (answer_of (fit bank.old (sized 4 sequence.now)) (state_at bank.old b) (Call.command_special_call motor (run_given sequence.now))) }
+    ensures called { (b : Buffers) → Called (fit bank.old (sized 4 sequence.now)) (Call.command_special_call motor (run_given sequence.now)) b bank.old bank.new (status_number result) }
 {
-    if bank.len() != SLOTS {
-        return WRONG_LENGTH;
-    }
-    if sequence.len() != 4 {
-        return WRONG_LENGTH;
-    }
+    let state = bank.as_mut_array::<SLOTS>().ok_or(Refusal::WrongLength)?;
+    let sequence = sequence.as_array::<4>().ok_or(Refusal::WrongLength)?;
     if motor >= LANES {
-        return NO_SUCH_MOTOR;
+        return Err(Refusal::NoSuchMotor);
     }
-    if flag(bank[FAULTED]) {
-        return BANK_FAULTED;
+    if flag(state[FAULTED]) {
+        return Err(Refusal::BankFaulted);
     }
-    if is_running(bank) {
-        return MOTORS_RUNNING;
+    if is_running(state) {
+        return Err(Refusal::MotorsRunning);
     }
-    if bank[RUN] != 0 {
-        return COMMAND_PENDING;
+    if state[RUN] != 0 {
+        return Err(Refusal::CommandPending);
     }
-    queue(bank, motor, sequence);
-    0
+    put_run(state, motor, run_from(sequence, 0));
+    Ok(())
 }
 
 // ---- telemetry requests
 
 // Requests legacy UART telemetry from exactly one motor in the next frame that starts without a special command. A frame with a special command
 // leaves the request.
-pub fn request_telemetry(bank: &mut [u16], motor: usize) -> u32
-    ensures value { (b : Buffers) → result ≡ number (answer_of (fit bank.old true) (state_at bank.old b) (Call.request_telemetry_call motor)) }
-    ensures called { (b : Buffers) → Called (fit bank.old true) (Call.request_telemetry_call motor) b bank.old bank.new result }
+pub fn request_telemetry(bank: &mut [u16], motor: usize) -> Result<(), Refusal>
+    ensures value { (b : Buffers) → status_number result ≡ number (answer_of (fit bank.old true) (state_at bank.old b) (Call.request_telemetry_call motor)) }
+    ensures called { (b : Buffers) → Called (fit bank.old true) (Call.request_telemetry_call motor) b bank.old bank.new (status_number result) }
 {
-    if bank.len() != SLOTS {
-        return WRONG_LENGTH;
-    }
+    let state = bank.as_mut_array::<SLOTS>().ok_or(Refusal::WrongLength)?;
     if motor >= LANES {
-        return NO_SUCH_MOTOR;
+        return Err(Refusal::NoSuchMotor);
     }
-    if flag(bank[FAULTED]) {
-        return BANK_FAULTED;
+    if flag(state[FAULTED]) {
+        return Err(Refusal::BankFaulted);
     }
-    if bank[REQUEST] != 0 {
-        return TELEMETRY_PENDING;
+    if state[REQUEST] != 0 {
+        return Err(Refusal::TelemetryPending);
     }
-    bank[REQUEST] = motor as u16 + 1;
-    0
+    state[REQUEST] = motor as u16 + 1;
+    Ok(())
 }
 
 // Withdraws a telemetry request no frame has carried yet. The ESC manager has given up on it, so it must not reach an ESC later.
-pub fn cancel_telemetry_request(bank: &mut [u16]) -> u32
-    ensures value { (b : Buffers) → result ≡ number (answer_of (fit bank.old true) (state_at bank.old b) Call.cancel_telemetry_request_call) }
-    ensures called { (b : Buffers) → Called (fit bank.old true) Call.cancel_telemetry_request_call b bank.old bank.new result }
+pub fn cancel_telemetry_request(bank: &mut [u16]) -> Result<(), Refusal>
+    ensures value { (b : Buffers) → status_number result ≡ number (answer_of (fit bank.old true) (state_at bank.old b) Call.cancel_telemetry_request_call) }
+    ensures called { (b : Buffers) → Called (fit bank.old true) Call.cancel_telemetry_request_call b bank.old bank.new (status_number result) }
 {
-    if bank.len() != SLOTS {
-        return WRONG_LENGTH;
-    }
-    clear_request(bank);
-    0
+    let state = bank.as_mut_array::<SLOTS>().ok_or(Refusal::WrongLength)?;
+    state[REQUEST] = 0;
+    Ok(())
 }
 
 // A motor in two slots: 1 and the lane. If there is none, 0 and 0.
-fn put_choice(slot: u16, out: &mut [u16])
-    requires { length out.old ≡ 2 }
-    ensures { out.new ≡ motor_slots (choice slot) }
+fn choice_slots(slot: u16) -> [u16; 2]
+    ensures { result ≡ motor_slots (choice slot) }
 {
     if slot == 0 {
-        out[0] = 0;
-        out[1] = 0;
-        return;
+        return [0, 0];
     }
-    out[0] = 1;
-    out[1] = (slot - 1) % 4;
+    [1, (slot - 1) % 4]
 }
 
 // Takes the lane whose telemetry bit was included in the frame started by the most recent `service` call, in two slots.
-pub fn take_telemetry_request_sent(bank: &mut [u16], out: &mut [u16]) -> u32
-    ensures called { (b : Buffers) → Called (fit bank.old (sized 2 out.old)) Call.take_telemetry_request_sent b bank.old bank.new result }
+pub fn take_telemetry_request_sent(bank: &mut [u16], out: &mut [u16]) -> Result<(), Refusal>
+    ensures called { (b : Buffers) → Called (fit bank.old (sized 2 out.old)) Call.take_telemetry_request_sent b bank.old bank.new (status_number result) }
     ensures out_after { (b : Buffers) → out.new ≡ out_after (answer_of (fit bank.old (sized 2 out.old)) (state_at bank.old b) Call.take_telemetry_request_sent) out.old }
 {
-    if bank.len() != SLOTS {
-        return WRONG_LENGTH;
-    }
-    if out.len() != 2 {
-        return WRONG_LENGTH;
-    }
-    put_choice(bank[REQUEST_SENT], out);
-    clear_sent(bank);
-    0
+    let state = bank.as_mut_array::<SLOTS>().ok_or(Refusal::WrongLength)?;
+    let out = out.as_mut_array::<2>().ok_or(Refusal::WrongLength)?;
+    *out = choice_slots(state[REQUEST_SENT]);
+    state[REQUEST_SENT] = 0;
+    Ok(())
 }

@@ -4,31 +4,31 @@
 //
 // The DMA interrupts of a bank.
 
-ghost use Rattle.std.specs.Prelude.{◌≡◌, ℕ, ◌+◌, ◌*◌, ◌<◌, Bool, true, false, List, [], ◌∷◌, ◌++◌, length};
-ghost use Rattle.dshot_bank_spec.specs.State.{Core, Buffers};
-ghost use Rattle.dshot_bank_spec.specs.Order.{begin_receive, end_receive};
+ghost use Rattle.std.specs.Prelude.{◌≡◌, ◌+◌, ◌<◌, true, false, [], ◌∷◌};
+ghost use Rattle.dshot_reply.specs.Refusals.{status_number};
+ghost use Rattle.dshot_bank_spec.specs.State.{Buffers};
+ghost use Rattle.dshot_bank_spec.specs.Order.{Order};
+ghost use Rattle.dshot_bank_spec.specs.OrderNumber.{code};
 ghost use Rattle.dshot_bank_spec.specs.Interrupt as Spec;
 ghost use Rattle.dshot_bank_spec.specs.Interrupt.{completion_bit, lane_done, frame_done, window_opened, window_closed, opens_window, after_lane};
 ghost use Rattle.dshot_bank_spec.specs.Calls.{on_dma_interrupt_call};
-ghost use Rattle.bank_slots_spec.specs.Places.{slots};
 ghost use Rattle.bank_slots_spec.specs.Load.{load};
 ghost use Rattle.bank_slots_spec.specs.Moves.{Moves, on_core};
 ghost use Rattle.bank_slots_spec.specs.Handles.{Handles};
 ghost use Rattle.bank_slots_spec.specs.Called.{Called, fit, sized, state_at, answer_of};
 ghost use Rattle.bank_slots_spec.specs.Outs.{interrupt_event, out_after};
+ghost use Rattle.dshot_bank.specs.Interrupts.{interrupt_event_of};
 
 use crate::memory::{bump, flag, put_word, word_at};
-use crate::numbers::{
-    BEGIN_RECEIVE, COMPLETED, END_RECEIVE, FORCE_OUTPUTS_LOW, INTERRUPT_FAULT, PAUSE_AND_CLEAR,
-    SPURIOUS_EVENT, STOP_FRAME,
-};
+use crate::numbers::{BEGIN_RECEIVE, END_RECEIVE, LATCH_ORDERS, PAUSE_AND_CLEAR, STOP_FRAME, tell};
 use crate::steps::{bump_if, latch_fault};
 use crate::{
     BIDIRECTIONAL, BUSY, COMPLETION_MASK, FAULTED, FRAMES_COMPLETED, INTERRUPT_SLOTS,
     LANE_COMPLETIONS, RECEIVING, REPLIES_WAITING, SLOTS,
 };
 use dshot_bank::LANES;
-use dshot_reply::refusals::{NO_SUCH_MOTOR, WRONG_LENGTH};
+use dshot_bank::interrupt::DshotInterruptEvent;
+use dshot_reply::refusals::Refusal;
 
 const ALL_MOTORS_COMPLETE: u32 = 0b1111;
 
@@ -36,16 +36,11 @@ fn completion_bit(lane: usize) -> u32
     requires { lane < 4 }
     ensures { result ≡ completion_bit lane }
 {
-    match lane {
-        0 => 1,
-        1 => 2,
-        2 => 4,
-        _ => 8,
-    }
+    1 << lane
 }
 
-fn lane_done(state: &mut [u16], lane: usize)
-    requires { (length state.old ≡ slots) × (lane < 4) }
+fn lane_done(state: &mut [u16; SLOTS], lane: usize)
+    requires { lane < 4 }
     ensures { Moves (on_core (lane_done lane)) state.old state.new }
 {
     let mask = word_at(state, COMPLETION_MASK) | completion_bit(lane);
@@ -54,24 +49,21 @@ fn lane_done(state: &mut [u16], lane: usize)
     bump_if(state, sent, LANE_COMPLETIONS + 2 * lane);
 }
 
-fn frame_done(state: &mut [u16])
-    requires { length state.old ≡ slots }
+fn frame_done(state: &mut [u16; SLOTS])
     ensures { Moves (on_core frame_done) state.old state.new }
 {
     state[BUSY] = 0;
     bump(state, FRAMES_COMPLETED);
 }
 
-fn window_opened(state: &mut [u16])
-    requires { length state.old ≡ slots }
+fn window_opened(state: &mut [u16; SLOTS])
     ensures { Moves (on_core window_opened) state.old state.new }
 {
     state[RECEIVING] = 1;
     put_word(state, COMPLETION_MASK, 0);
 }
 
-fn window_closed(state: &mut [u16])
-    requires { length state.old ≡ slots }
+fn window_closed(state: &mut [u16; SLOTS])
     ensures { Moves (on_core window_closed) state.old state.new }
 {
     state[RECEIVING] = 0;
@@ -80,110 +72,87 @@ fn window_closed(state: &mut [u16])
 }
 
 // A bidirectional frame set has transmitted.
-fn opens_window(state: &[u16]) -> bool
-    requires { length state.now ≡ slots }
+fn opens_window(state: &[u16; SLOTS]) -> bool
     ensures { result ≡ opens_window (load state.now).core.frame }
 {
-    if flag(state[BIDIRECTIONAL]) {
-        return !flag(state[RECEIVING]);
-    }
-    false
+    flag(state[BIDIRECTIONAL]) && !flag(state[RECEIVING])
 }
 
-// The event, and seven slots for orders. `count` of them are given.
-fn tell(out: &mut [u16], event: u16, count: u16, orders: [u16; 7])
-    requires { length out.old ≡ 9 }
-    ensures { out.new ≡ event ∷ count ∷ orders }
+// The order to pause the lane's stream.
+fn pause(lane: usize) -> u16
+    requires { lane < 4 }
+    ensures { result ≡ 48 + lane }
 {
-    out[0] = event;
-    out[1] = count;
-    out[2] = orders[0];
-    out[3] = orders[1];
-    out[4] = orders[2];
-    out[5] = orders[3];
-    out[6] = orders[4];
-    out[7] = orders[5];
-    out[8] = orders[6];
+    PAUSE_AND_CLEAR + lane as u16
+}
+
+// The number of an event in the answer's slots.
+fn number(event: DshotInterruptEvent) -> u16
+    ensures { result ≡ interrupt_event (interrupt_event_of event) }
+{
+    event as u16
 }
 
 // Only the lane's pause.
-fn tell_paused(out: &mut [u16], event: u16, lane: usize)
-    requires { (length out.old ≡ 9) × (lane < 4) }
-    ensures { out.new ≡ event ∷ 1 ∷ (48 + lane) ∷ 0 ∷ 0 ∷ 0 ∷ 0 ∷ 0 ∷ 0 ∷ [] }
+fn tell_paused(out: &mut [u16; INTERRUPT_SLOTS], event: DshotInterruptEvent, lane: usize)
+    requires { lane < 4 }
+    ensures { out.new ≡ interrupt_event (interrupt_event_of event) ∷ 1 ∷ (48 + lane) ∷ 0 ∷ 0 ∷ 0 ∷ 0 ∷ 0 ∷ 0 ∷ [] }
 {
-    tell(
-        out,
-        event,
-        1,
-        [PAUSE_AND_CLEAR + lane as u16, 0, 0, 0, 0, 0, 0],
-    );
+    tell(out, number(event), &[pause(lane)], &[]);
 }
 
 // The lane's pause, and one order for all lanes.
-fn tell_order(out: &mut [u16], lane: usize, order: u16)
-    requires { (length out.old ≡ 9) × (lane < 4) }
+fn tell_order(out: &mut [u16; INTERRUPT_SLOTS], lane: usize, order: u16)
+    requires { lane < 4 }
     ensures { out.new ≡ 0 ∷ 2 ∷ (48 + lane) ∷ order ∷ 0 ∷ 0 ∷ 0 ∷ 0 ∷ 0 ∷ [] }
 {
-    tell(
-        out,
-        COMPLETED,
-        2,
-        [PAUSE_AND_CLEAR + lane as u16, order, 0, 0, 0, 0, 0],
-    );
+    let event = DshotInterruptEvent::Completed;
+    tell(out, event as u16, &[pause(lane), order], &[]);
 }
 
 // The lane's pause, and then a latched fault.
-fn latched(state: &mut [u16], lane: usize, spurious: bool, event: u16, out: &mut [u16])
-    requires { (length state.old ≡ slots) × (length out.old ≡ 9) × (lane < 4) }
-    ensures { (e : Spec.InterruptEvent) → interrupt_event e ≡ event → Handles (Spec.latched 4 lane true false true true spurious e []) state.old state.new out.new }
+fn latched(
+    state: &mut [u16; SLOTS],
+    lane: usize,
+    spurious: bool,
+    event: DshotInterruptEvent,
+    out: &mut [u16; INTERRUPT_SLOTS],
+)
+    requires { lane < 4 }
+    ensures { Handles (Spec.latched 4 lane true false true true spurious (interrupt_event_of event) []) state.old state.new out.new }
 {
     latch_fault(state, spurious);
-    tell(
-        out,
-        event,
-        6,
-        [
-            PAUSE_AND_CLEAR + lane as u16,
-            FORCE_OUTPUTS_LOW,
-            PAUSE_AND_CLEAR,
-            PAUSE_AND_CLEAR + 1,
-            PAUSE_AND_CLEAR + 2,
-            PAUSE_AND_CLEAR + 3,
-            0,
-        ],
-    );
+    tell(out, number(event), &[pause(lane)], &LATCH_ORDERS);
 }
 
 // The lane's pause, the order to turn around, and then a latched fault: a lane could not turn around.
-fn latched_turning(state: &mut [u16], lane: usize, order: u16, out: &mut [u16])
-    requires { (length state.old ≡ slots) × (length out.old ≡ 9) × (lane < 4) }
-    ensures handles { order ≡ 56 → Handles (Spec.latched 4 lane true false true true false Spec.faulted (begin_receive ∷ [])) state.old state.new out.new }
-    ensures handles_2 { order ≡ 64 → Handles (Spec.latched 4 lane true false true true false Spec.faulted (end_receive ∷ [])) state.old state.new out.new }
+fn latched_turning(
+    state: &mut [u16; SLOTS],
+    lane: usize,
+    order: u16,
+    out: &mut [u16; INTERRUPT_SLOTS],
+)
+    requires { lane < 4 }
+    ensures { (o : Order) → order ≡ code o → Handles (Spec.latched 4 lane true false true true false Spec.faulted (o ∷ [])) state.old state.new out.new }
 {
     latch_fault(state, false);
-    tell(
-        out,
-        INTERRUPT_FAULT,
-        7,
-        [
-            PAUSE_AND_CLEAR + lane as u16,
-            order,
-            FORCE_OUTPUTS_LOW,
-            PAUSE_AND_CLEAR,
-            PAUSE_AND_CLEAR + 1,
-            PAUSE_AND_CLEAR + 2,
-            PAUSE_AND_CLEAR + 3,
-        ],
-    );
+    let event = DshotInterruptEvent::Faulted;
+    tell(out, event as u16, &[pause(lane), order], &LATCH_ORDERS);
 }
 
 // A lane has completed. After the last lane of a transmission, the receive window opens or the set is done. After the last window, the set is done.
-fn after_lane(state: &mut [u16], lane: usize, turned: bool, turned_back: bool, out: &mut [u16])
-    requires { (length state.old ≡ slots) × (length out.old ≡ 9) × (lane < 4) }
+fn after_lane(
+    state: &mut [u16; SLOTS],
+    lane: usize,
+    turned: bool,
+    turned_back: bool,
+    out: &mut [u16; INTERRUPT_SLOTS],
+)
+    requires { lane < 4 }
     ensures { Handles (after_lane 4 lane true false turned turned_back) state.old state.new out.new }
 {
     if word_at(state, COMPLETION_MASK) != ALL_MOTORS_COMPLETE {
-        tell_paused(out, COMPLETED, lane);
+        tell_paused(out, DshotInterruptEvent::Completed, lane);
         return;
     }
     if opens_window(state) {
@@ -209,35 +178,35 @@ fn after_lane(state: &mut [u16], lane: usize, turned: bool, turned_back: bool, o
 }
 
 fn handle(
-    state: &mut [u16],
+    state: &mut [u16; SLOTS],
     lane: usize,
     transfer_complete: bool,
     dma_error: bool,
     turned: bool,
     turned_back: bool,
-    out: &mut [u16],
+    out: &mut [u16; INTERRUPT_SLOTS],
 )
-    requires { (length state.old ≡ slots) × (length out.old ≡ 9) × (lane < 4) }
+    requires { lane < 4 }
     ensures { Handles (Spec.on_dma_interrupt 4 lane transfer_complete dma_error turned turned_back) state.old state.new out.new }
 {
     if flag(state[FAULTED]) {
-        tell_paused(out, INTERRUPT_FAULT, lane);
+        tell_paused(out, DshotInterruptEvent::Faulted, lane);
         return;
     }
     if !flag(state[BUSY]) {
-        latched(state, lane, true, SPURIOUS_EVENT, out);
+        latched(state, lane, true, DshotInterruptEvent::Spurious, out);
         return;
     }
     if word_at(state, COMPLETION_MASK) & completion_bit(lane) != 0 {
-        latched(state, lane, true, SPURIOUS_EVENT, out);
+        latched(state, lane, true, DshotInterruptEvent::Spurious, out);
         return;
     }
     if dma_error {
-        latched(state, lane, false, INTERRUPT_FAULT, out);
+        latched(state, lane, false, DshotInterruptEvent::Faulted, out);
         return;
     }
     if !transfer_complete {
-        latched(state, lane, true, SPURIOUS_EVENT, out);
+        latched(state, lane, true, DshotInterruptEvent::Spurious, out);
         return;
     }
     lane_done(state, lane);
@@ -254,21 +223,19 @@ pub fn on_dma_interrupt(
     turned: bool,
     turned_back: bool,
     out: &mut [u16],
-) -> u32
-    ensures called { (b : Buffers) → Called (fit bank.old (sized 9 out.old)) (on_dma_interrupt_call motor transfer_complete dma_error turned turned_back) b bank.old bank.new result }
+) -> Result<(), Refusal>
+    ensures called { (b : Buffers) → Called (fit bank.old (sized 9 out.old)) (on_dma_interrupt_call motor transfer_complete dma_error turned turned_back) b bank.old bank.new (status_number result) }
     ensures out_after { (b : Buffers) → out.new ≡ out_after (answer_of (fit bank.old (sized 9 out.old)) (state_at bank.old b) (on_dma_interrupt_call motor transfer_complete dma_error turned turned_back)) out.old }
 {
-    if bank.len() != SLOTS {
-        return WRONG_LENGTH;
-    }
-    if out.len() != INTERRUPT_SLOTS {
-        return WRONG_LENGTH;
-    }
+    let state = bank.as_mut_array::<SLOTS>().ok_or(Refusal::WrongLength)?;
+    let out = out
+        .as_mut_array::<INTERRUPT_SLOTS>()
+        .ok_or(Refusal::WrongLength)?;
     if motor >= LANES {
-        return NO_SUCH_MOTOR;
+        return Err(Refusal::NoSuchMotor);
     }
     handle(
-        bank,
+        state,
         motor,
         transfer_complete,
         dma_error,
@@ -276,5 +243,5 @@ pub fn on_dma_interrupt(
         turned_back,
         out,
     );
-    0
+    Ok(())
 }

@@ -3,8 +3,8 @@
 //
 // The replies of the last receive window, and their counts. A lane takes nine slots: the reply's kind and number, and three counts.
 
-ghost use Rattle.std.specs.Prelude.{◌≡◌, ◌+◌, ◌*◌, ◌<◌, length, slice_index};
-ghost use Rattle.dshot_reply.specs.Answers.{reply_answer};
+ghost use Rattle.std.specs.Prelude.{◌≡◌, ◌+◌, ◌<◌, slice_index};
+ghost use Rattle.dshot_reply.specs.Answers.{error_number, reply_answer};
 ghost use Rattle.dshot_bank_spec.specs.State.{Bank};
 ghost use Rattle.dshot_bank_spec.specs.Replies.{window, read_window, count_reply, decode_replies};
 ghost use Rattle.bank_slots_spec.specs.Memory.{at, write};
@@ -18,34 +18,47 @@ ghost use Rattle.bank_slots_spec.specs.Parts.{with_replies, windows_read};
 
 use crate::memory::{flag, put_word, word_at};
 use crate::numbers::REFUSED;
-use crate::{REPLIES, REPLIES_HELD, REPLIES_WAITING};
-use dshot_bank::{LaneReply, StoredReply};
+use crate::{CAPTURE_SLOTS, LANES_SLOTS, PER_LANE, REPLIES, REPLIES_HELD, REPLIES_WAITING, SLOTS};
+use dshot_bank::{LANES, LaneReply, StoredReply};
 use dshot_reply::kind::{kind_number, reading_number};
-use dshot_reply::{DshotReplyError, REPLY_WINDOW_SAMPLES, ReplyRead};
+use dshot_reply::refusals::Refusal;
+use dshot_reply::{DshotReply, DshotReplyError, REPLY_WINDOW_SAMPLES};
+
+// The number of a refused reply, in one slot.
+pub(crate) fn error_slot(error: DshotReplyError) -> u16
+    ensures { (result ≡ error_number error) × (result < 12) }
+{
+    Refusal::from(error).number() as u16
+}
 
 // The kind under which a reply is stored: that of its reading, or that of its refusal.
-fn stored_kind(read: ReplyRead) -> u16
+pub(crate) fn stored_kind(read: Result<DshotReply, DshotReplyError>) -> u16
     ensures { result ≡ reply_kind (reply_answer read) }
 {
     match read {
-        ReplyRead::Reply(reply) => kind_number(reply),
-        ReplyRead::Refused(error) => REFUSED + dshot_reply::error_number(error) as u16,
+        Ok(reply) => kind_number(reply),
+        Err(error) => REFUSED + error_slot(error),
     }
 }
 
 // The number under which a reply is stored.
-fn stored_number(read: ReplyRead) -> u32
+fn stored_number(read: Result<DshotReply, DshotReplyError>) -> u32
     ensures { result ≡ reply_number (reply_answer read) }
 {
     match read {
-        ReplyRead::Reply(reply) => reading_number(reply),
-        ReplyRead::Refused(_) => 0,
+        Ok(reply) => reading_number(reply),
+        Err(_) => 0,
     }
 }
 
 // Writes a lane's reply and its counts into the nine slots from `k` on.
-fn put_lane(state: &mut [u16], k: usize, read: ReplyRead, counted: LaneReply)
-    requires { k + 8 < length state.old }
+fn put_lane(
+    state: &mut [u16; SLOTS],
+    k: usize,
+    read: Result<DshotReply, DshotReplyError>,
+    counted: LaneReply,
+)
+    requires { k + 8 < slots }
     ensures { state.new ≡ write (lane_rows k (record { reply = reply_answer read; valid = counted.valid; invalid = counted.invalid; consecutive_invalid = counted.consecutive_invalid })) state.old }
 {
     state[k] = stored_kind(read);
@@ -56,8 +69,9 @@ fn put_lane(state: &mut [u16], k: usize, read: ReplyRead, counted: LaneReply)
 }
 
 // Counts a reply of the lane whose slots begin at `k`. It does not look at the reply that was stored before.
-fn count_reply(state: &mut [u16], k: usize, read: ReplyRead)
-    requires { k + 8 < length state.old }
+#[inline(always)]
+fn count_reply(state: &mut [u16; SLOTS], k: usize, read: Result<DshotReply, DshotReplyError>)
+    requires { k + 8 < slots }
     ensures { state.new ≡ write (lane_rows k (count_reply (reply_answer read) (lane_from k (at state.old)))) state.old }
 {
     let before = LaneReply {
@@ -72,12 +86,18 @@ fn count_reply(state: &mut [u16], k: usize, read: ReplyRead)
 // Reads and counts the window of a lane whose slots begin at `k`. Extended telemetry is not enabled yet, so every value except its acknowledgement is
 // read as eRPM.
 #[inline(always)]
-fn decode_lane(state: &mut [u16], k: usize, lane: usize, lanes: &[u16], captures: &[u16])
-    requires { (k + 8 < length state.old) × (lane < 4) × (length lanes.now ≡ 12) × (length captures.now ≡ 160 * 4) }
+fn decode_lane(
+    state: &mut [u16; SLOTS],
+    k: usize,
+    lane: usize,
+    lanes: &[u16; LANES_SLOTS],
+    captures: &[u16; CAPTURE_SLOTS],
+)
+    requires { (k + 8 < slots) × (lane < 4) }
     ensures { state.new ≡ write (lane_rows k (count_reply (read_window (Load.flag (slice_index lanes.now (4 + lane))) (window captures.now lane) (slice_index lanes.now (8 + lane))) (lane_from k (at state.old)))) state.old }
 {
     if !flag(lanes[4 + lane]) {
-        count_reply(state, k, ReplyRead::Refused(DshotReplyError::NoReply));
+        count_reply(state, k, Err(DshotReplyError::NoReply));
         return;
     }
     let from = REPLY_WINDOW_SAMPLES * lane;
@@ -86,19 +106,24 @@ fn decode_lane(state: &mut [u16], k: usize, lane: usize, lanes: &[u16], captures
     count_reply(state, k, read);
 }
 
-fn decode_replies(state: &mut [u16], lanes: &[u16], captures: &[u16])
-    requires { (length state.old ≡ slots) × (length lanes.now ≡ 12) × (length captures.now ≡ 160 * 4) }
+fn decode_replies(
+    state: &mut [u16; SLOTS],
+    lanes: &[u16; LANES_SLOTS],
+    captures: &[u16; CAPTURE_SLOTS],
+)
     ensures { Moves (λ (b : Bank). with_replies (decode_replies 4 (present lanes.now) (masks lanes.now) captures.now b.replies) b) state.old state.new }
 {
-    decode_lane(state, REPLIES, 0, lanes, captures);
-    decode_lane(state, REPLIES + 9, 1, lanes, captures);
-    decode_lane(state, REPLIES + 18, 2, lanes, captures);
-    decode_lane(state, REPLIES + 27, 3, lanes, captures);
+    for lane in 0..LANES {
+        decode_lane(state, REPLIES + PER_LANE * lane, lane, lanes, captures);
+    }
 }
 
 // Decodes the last receive window, if one waits.
-pub(crate) fn read_replies(state: &mut [u16], lanes: &[u16], captures: &[u16])
-    requires { (length state.old ≡ slots) × (length lanes.now ≡ 12) × (length captures.now ≡ 160 * 4) }
+pub(crate) fn read_replies(
+    state: &mut [u16; SLOTS],
+    lanes: &[u16; LANES_SLOTS],
+    captures: &[u16; CAPTURE_SLOTS],
+)
     ensures { Moves (windows_read (present lanes.now) (masks lanes.now) captures.now) state.old state.new }
 {
     if !flag(state[REPLIES_WAITING]) {

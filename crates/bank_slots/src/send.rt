@@ -4,107 +4,93 @@
 //
 // Sending a frame set.
 
-ghost use Rattle.std.specs.Prelude.{◌≡◌, ◌+◌, ◌*◌, ◌<◌, Bool, not, [], ◌∷◌, ◌++◌, length, set, replicate, slice_set, if◌then◌else◌};
-ghost use Rattle.std.proofs.Math.Option.{none};
+ghost use Rattle.std.specs.Prelude.{◌≡◌, ◌+◌, ◌*◌, ◌<◌, ◌≤◌, Bool, not, [], replicate, slice_set, if◌then◌else◌};
 ghost use Rattle.dshot.specs.Answers.{kind_of, lane_of, timing_of};
 ghost use Rattle.dshot_bank_spec.specs.Lanes.{position};
 ghost use Rattle.dshot_bank_spec.specs.State.{Core, Bank, Buffers};
-ghost use Rattle.dshot_bank_spec.specs.Order.{start_orders, refused_orders};
 ghost use Rattle.dshot_bank_spec.specs.Commands.{next_of_run, next_command_frame};
 ghost use Rattle.dshot_bank_spec.specs.With.{with_command_sequence};
 ghost use Rattle.dshot_bank_spec.specs.FrameSet.{kind_sent, as_lane};
 ghost use Rattle.dshot_bank_spec.specs.Send.{exchange_refused, frame_started};
 ghost use Rattle.dshot_bank_spec.specs.Service as Spec;
-ghost use Rattle.bank_slots_spec.specs.Memory.{◌holds◌, at, write};
-ghost use Rattle.bank_slots_spec.specs.Places.{slots};
-ghost use Rattle.bank_slots_spec.specs.Load.{load};
+ghost use Rattle.bank_slots_spec.specs.Memory.{at};
 ghost use Rattle.bank_slots_spec.specs.Places as Places;
+ghost use Rattle.bank_slots_spec.specs.Load.{load};
 ghost use Rattle.bank_slots_spec.specs.Load as Load;
 ghost use Rattle.bank_slots_spec.specs.Store as Store;
 ghost use Rattle.bank_slots_spec.specs.Moves.{Moves, on_core};
 ghost use Rattle.bank_slots_spec.specs.Handles.{Serves};
-ghost use Rattle.bank_slots_spec.specs.Outs.{code_given, codes};
 ghost use Rattle.bank_slots_spec.specs.Arguments.{taken};
 ghost use Rattle.bank_slots_spec.specs.Parts.{run_stepped, marks_turned, carried_by, request_carried, in_flight};
-ghost use Rattle.bank_slots.specs.Frames.{motor_command_of, OnLane, Sets};
+ghost use Rattle.bank_slots.specs.Frames.{motor_command_of, OnLane, Sets, exchange_codes};
 
 use crate::commands::any_above;
-use crate::memory::{bit, bump, flag, put_long, put_word};
-use crate::numbers::{
-    EXCHANGE_BUFFER, FAULT, FRAME_STARTED, LEASE_EXPIRED, SECOND, START_DMA, START_FRAME,
-    refused_by_0, refused_by_1, refused_by_2, refused_by_3,
-};
+use crate::memory::{bump, flag, put_long, put_word};
+use crate::numbers::{EXCHANGE_BUFFER, LATCH_ORDERS, SECOND, STARTED_ORDERS, tell};
 use crate::steps::{clear_run, latch_fault, put_run, run_from};
 use crate::{
-    BIDIRECTIONAL, BUSY, COMPLETION_MASK, FRAMES_STARTED, IN_SECOND, REQUEST, REQUEST_SENT, RUN,
-    STARTED, VALUES,
+    BIDIRECTIONAL, BUFFER_SLOTS, BUSY, COMPLETION_MASK, FRAMES_STARTED, IN_SECOND, LANES_SLOTS,
+    LEASE_STARTED, REQUEST, REQUEST_SENT, RUN, SERVICE_SLOTS, SLOTS, STARTED, VALUES,
 };
-use dshot::{ChecksumKind, CommandValue, DshotTiming, MotorValues, TelemetryLane};
+use dshot::{ChecksumKind, DshotTiming, MotorValues};
 use dshot_bank::LANES;
 use dshot_bank::replies::LaneFlags;
-use dshot_bank::send::encode_spares;
+use dshot_bank::send::encode_lanes;
+use dshot_bank::service::DshotServiceEvent;
 
-// The next special-command frame.
-#[derive(Clone, Copy)]
-pub(crate) enum FrameCommand {
-    None,
-    Command(usize, u16),
-}
+// The next special-command frame: its lane and its command.
+pub(crate) type FrameCommand = Option<(usize, u16)>;
 
 // What is sent to each lane, and whether it is an ordinary frame. An ordinary frame carries the pending telemetry request.
 #[derive(Clone, Copy)]
 pub(crate) struct FrameSet {
     pub values: MotorValues,
-    pub telemetry_lane: TelemetryLane,
+    pub telemetry_lane: Option<usize>,
     pub ordinary: bool,
 }
 
 // ---- the run of commands
 
 // Takes the next command of a run, and steps the run. A spent run is cleared.
-fn step_run(state: &mut [u16]) -> FrameCommand
-    requires { (length state.old ≡ slots) × (at state.old Places.RUN ≡ 0 → ⊥) }
+fn step_run(state: &mut [u16; SLOTS]) -> FrameCommand
+    requires { at state.old Places.RUN ≡ 0 → ⊥ }
     ensures on_lane { OnLane result }
     ensures result_value { motor_command_of result ≡ (next_of_run (load state.old).core.command_sequence).command }
     ensures moves { Moves (on_core (λ (c : Core). with_command_sequence (next_of_run c.command_sequence).left c)) state.old state.new }
 {
     let motor = ((state[RUN] - 1) % 4) as usize;
-    let next = run_from(state, RUN + 1).next_value();
-    let left = next.sequence;
-    let value = next.value;
-    match value {
-        CommandValue::Value(command) => {
-            put_run(state, motor, left);
-            FrameCommand::Command(motor, command)
+    let mut run = run_from(state, RUN + 1);
+    match run.next_value() {
+        Some(command) => {
+            put_run(state, motor, run);
+            Some((motor, command))
         }
-        CommandValue::None => {
+        None => {
             clear_run(state);
-            FrameCommand::None
+            None
         }
     }
 }
 
 // The next special-command frame. If there is none, or a throttle demand has cancelled it, the answer is none.
-fn next_command_frame(state: &mut [u16]) -> FrameCommand
-    requires { length state.old ≡ slots }
+fn next_command_frame(state: &mut [u16; SLOTS]) -> FrameCommand
     ensures on_lane { OnLane result }
     ensures result_value { motor_command_of result ≡ (next_command_frame (load state.old).core).command }
     ensures moves { Moves (on_core run_stepped) state.old state.new }
 {
-    if any_above(&state[VALUES..VALUES + LANES], 0) {
+    if any_above(&state[VALUES..LEASE_STARTED], 0) {
         clear_run(state);
-        return FrameCommand::None;
+        return None;
     }
     if state[RUN] == 0 {
-        return FrameCommand::None;
+        return None;
     }
     step_run(state)
 }
 
 // ---- what is sent
 
-fn values_at(state: &[u16]) -> MotorValues
-    requires { length state.now ≡ slots }
+fn values_at(state: &[u16; SLOTS]) -> MotorValues
     ensures { result ≡ (load state.now).core.demand.requested_values }
 {
     [
@@ -120,35 +106,32 @@ fn one_lane(motor: usize, command: u16) -> MotorValues
     requires { motor < 4 }
     ensures { result ≡ slice_set (replicate 4 0) motor command }
 {
-    match motor {
-        0 => [command, 0, 0, 0],
-        1 => [0, command, 0, 0],
-        2 => [0, 0, command, 0],
-        _ => [0, 0, 0, command],
-    }
+    let mut values = [0; LANES];
+    values[motor] = command;
+    values
 }
 
-fn request_lane(slot: u16) -> TelemetryLane
+fn request_lane(slot: u16) -> Option<usize>
     ensures { lane_of result ≡ as_lane (Load.choice slot) }
 {
     if slot == 0 {
-        return TelemetryLane::None;
+        return None;
     }
-    TelemetryLane::Lane(((slot - 1) % 4) as usize)
+    Some(((slot - 1) % 4) as usize)
 }
 
 // A special command needs the telemetry bit on its own lane, so a pending telemetry request waits for the next ordinary frame.
-fn frame_set(state: &[u16], command: FrameCommand) -> FrameSet
-    requires { (length state.now ≡ slots) × OnLane command }
+fn frame_set(state: &[u16; SLOTS], command: FrameCommand) -> FrameSet
+    requires { OnLane command }
     ensures { Sets result (load state.now).core (motor_command_of command) }
 {
     match command {
-        FrameCommand::Command(motor, value) => FrameSet {
+        Some((motor, value)) => FrameSet {
             values: one_lane(motor, value),
-            telemetry_lane: TelemetryLane::Lane(motor),
+            telemetry_lane: Some(motor),
             ordinary: false,
         },
-        FrameCommand::None => FrameSet {
+        None => FrameSet {
             values: values_at(state),
             telemetry_lane: request_lane(state[REQUEST]),
             ordinary: true,
@@ -156,8 +139,7 @@ fn frame_set(state: &[u16], command: FrameCommand) -> FrameSet
     }
 }
 
-fn kind(state: &[u16]) -> ChecksumKind
-    requires { length state.now ≡ slots }
+fn kind(state: &[u16; SLOTS]) -> ChecksumKind
     ensures { kind_of result ≡ kind_sent (load state.now).core }
 {
     if flag(state[BIDIRECTIONAL]) {
@@ -167,8 +149,7 @@ fn kind(state: &[u16]) -> ChecksumKind
     }
 }
 
-fn timing_at(state: &[u16]) -> DshotTiming
-    requires { length state.now ≡ slots }
+fn timing_at(state: &[u16; SLOTS]) -> DshotTiming
     ensures { timing_of result ≡ (load state.now).core.timing }
 {
     DshotTiming {
@@ -179,8 +160,7 @@ fn timing_at(state: &[u16]) -> DshotTiming
     }
 }
 
-fn marks_at(state: &[u16]) -> LaneFlags
-    requires { length state.now ≡ slots }
+fn marks_at(state: &[u16; SLOTS]) -> LaneFlags
     ensures { result ≡ (load state.now).core.frame.in_second }
 {
     [
@@ -194,49 +174,31 @@ fn marks_at(state: &[u16]) -> LaneFlags
 // ---- the exchange
 
 // How many lanes took their buffer before the first lane that did not.
-fn lanes_taken(lanes: &[u16]) -> usize
-    requires { length lanes.now ≡ 12 }
+fn lanes_taken(lanes: &[u16; LANES_SLOTS]) -> usize
     ensures { result ≡ position not (taken lanes.now) }
 {
-    if !flag(lanes[0]) {
-        return 0;
-    }
-    if !flag(lanes[1]) {
-        return 1;
-    }
-    if !flag(lanes[2]) {
-        return 2;
-    }
-    if !flag(lanes[3]) {
-        return 3;
+    for lane in 0..LANES {
+        if !flag(lanes[lane]) {
+            return lane;
+        }
     }
     LANES
 }
 
-fn turn_mark(state: &mut [u16], k: usize, turned: bool)
-    requires { k < length state.old }
-    ensures { state.new ≡ (if turned then write ((k holds Store.bit (not (Load.flag (at state.old k)))) ∷ []) state.old else state.old) }
+// Turns the marks of the first lanes: what they sent is now spare, and their spare is sent.
+fn turn_marks(state: &mut [u16; SLOTS], turned: usize)
+    requires { turned ≤ 4 }
+    ensures { Moves (on_core (marks_turned turned)) state.old state.new }
 {
-    if turned {
-        let mark = flag(state[k]);
-        state[k] = bit(!mark);
+    for lane in 0..turned {
+        let mark = flag(state[IN_SECOND + lane]);
+        state[IN_SECOND + lane] = u16::from(!mark);
     }
 }
 
-// Turns the marks of the first lanes: what they sent is now spare, and their spare is sent.
-fn turn_marks(state: &mut [u16], turned: usize)
-    requires { length state.old ≡ slots }
-    ensures { Moves (on_core (marks_turned turned)) state.old state.new }
-{
-    turn_mark(state, IN_SECOND, 0 < turned);
-    turn_mark(state, IN_SECOND + 1, 1 < turned);
-    turn_mark(state, IN_SECOND + 2, 2 < turned);
-    turn_mark(state, IN_SECOND + 3, 3 < turned);
-}
-
 // A lane refuses its buffer. The lanes before it have turned.
-fn exchange_refused(state: &mut [u16], lane: usize)
-    requires { length state.old ≡ slots }
+fn exchange_refused(state: &mut [u16; SLOTS], lane: usize)
+    requires { lane < 4 }
     ensures { Moves (on_core (λ (c : Core). (exchange_refused 4 lane c).core)) state.old state.new }
 {
     turn_marks(state, lane);
@@ -254,44 +216,19 @@ fn exchange(lane: u16, in_second: bool) -> u16
     EXCHANGE_BUFFER + lane + SECOND
 }
 
-// The orders if a lane refuses its buffer: the exchanges up to that lane, the outputs low, and every stream paused.
-fn refused_orders(lane: usize, in_second: LaneFlags) -> [u16; 9]
-    requires { lane < 4 }
-    ensures { result ≡ codes 9 (code_given in_second) (refused_orders 4 lane) }
-{
-    let a = exchange(0, in_second[0]);
-    let b = exchange(1, in_second[1]);
-    let c = exchange(2, in_second[2]);
-    let d = exchange(3, in_second[3]);
-    match lane {
-        0 => refused_by_0(a),
-        1 => refused_by_1(a, b),
-        2 => refused_by_2(a, b, c),
-        _ => refused_by_3(a, b, c, d),
-    }
-}
-
-// The orders of a frame set that starts: every buffer exchanged, every stream enabled, and the timers started. All DMA streams are enabled before any
-// timer DMA request is opened.
-fn start_orders(in_second: LaneFlags) -> [u16; 9]
-    ensures { result ≡ codes 9 (code_given in_second) (start_orders 4 []) }
+fn exchanges(in_second: LaneFlags) -> [u16; LANES]
+    ensures { result ≡ exchange_codes in_second }
 {
     [
         exchange(0, in_second[0]),
         exchange(1, in_second[1]),
         exchange(2, in_second[2]),
         exchange(3, in_second[3]),
-        START_DMA,
-        START_DMA + 1,
-        START_DMA + 2,
-        START_DMA + 3,
-        START_FRAME,
     ]
 }
 
 // Puts a frame set in flight. The request that it carries is handled apart.
-fn mark_in_flight(state: &mut [u16], now_ms: u64)
-    requires { length state.old ≡ slots }
+fn mark_in_flight(state: &mut [u16; SLOTS], now_ms: u64)
     ensures { Moves (on_core (in_flight now_ms)) state.old state.new }
 {
     put_long(state, STARTED, now_ms);
@@ -301,23 +238,17 @@ fn mark_in_flight(state: &mut [u16], now_ms: u64)
 }
 
 // If the frame carries a request, the request is sent and no longer pending.
-fn carry(state: &mut [u16], ordinary: bool)
-    requires { length state.old ≡ slots }
+fn carry(state: &mut [u16; SLOTS], ordinary: bool)
     ensures { Moves (on_core (request_carried ordinary)) state.old state.new }
 {
-    if !ordinary {
-        return;
-    }
     let request = state[REQUEST];
-    if request == 0 {
-        return;
+    if ordinary && request != 0 {
+        state[REQUEST] = 0;
+        state[REQUEST_SENT] = request;
     }
-    state[REQUEST] = 0;
-    state[REQUEST_SENT] = request;
 }
 
-fn frame_started(state: &mut [u16], now_ms: u64, ordinary: bool)
-    requires { length state.old ≡ slots }
+fn frame_started(state: &mut [u16; SLOTS], now_ms: u64, ordinary: bool)
     ensures { Moves (on_core (λ (c : Core). frame_started 4 now_ms (carried_by ordinary c) c)) state.old state.new }
 {
     turn_marks(state, LANES);
@@ -327,48 +258,25 @@ fn frame_started(state: &mut [u16], now_ms: u64, ordinary: bool)
 
 // ---- the answer of a service
 
-// The event, nine slots for orders, and the first duties. `count` orders are given.
-pub(crate) fn tell(out: &mut [u16], event: u16, count: u16, orders: [u16; 9], duties: MotorValues)
-    requires { length out.old ≡ 15 }
-    ensures { out.new ≡ event ∷ count ∷ (orders ++ duties) }
-{
-    out[0] = event;
-    out[1] = count;
-    out[2] = orders[0];
-    out[3] = orders[1];
-    out[4] = orders[2];
-    out[5] = orders[3];
-    out[6] = orders[4];
-    out[7] = orders[5];
-    out[8] = orders[6];
-    out[9] = orders[7];
-    out[10] = orders[8];
-    out[11] = duties[0];
-    out[12] = duties[1];
-    out[13] = duties[2];
-    out[14] = duties[3];
-}
-
 fn sent_event(lease_expired: bool) -> u16
     ensures { result ≡ (if lease_expired then 2 else 0) }
 {
     if lease_expired {
-        LEASE_EXPIRED
+        DshotServiceEvent::LeaseExpired as u16
     } else {
-        FRAME_STARTED
+        DshotServiceEvent::FrameStarted as u16
     }
 }
 
 pub(crate) fn send(
-    state: &mut [u16],
+    state: &mut [u16; SLOTS],
     now_ms: u64,
     lease_expired: bool,
-    lanes: &[u16],
-    first: &mut [u16],
-    second: &mut [u16],
-    out: &mut [u16],
+    lanes: &[u16; LANES_SLOTS],
+    first: &mut [u16; BUFFER_SLOTS],
+    second: &mut [u16; BUFFER_SLOTS],
+    out: &mut [u16; SERVICE_SLOTS],
 )
-    requires { (length state.old ≡ slots) × (length lanes.now ≡ 12) × (length first.old ≡ 16 * 4) × (length second.old ≡ 16 * 4) × (length out.old ≡ 15) }
     ensures { Serves (λ (k : Bank) (b : Buffers). Spec.sending 4 now_ms (taken lanes.now) [] [] [] [] b lease_expired k.core k.replies) (record { first = first.entry.now; second = second.old }) (record { first = first.exit.now; second = second.new }) state.old state.new out.new }
 {
     let next = next_command_frame(state);
@@ -377,26 +285,16 @@ pub(crate) fn send(
     let lane = next_set.telemetry_lane;
     let packets = dshot::packets_of_kind(kind(state), values, lane);
     let marks = marks_at(state);
-    let spares = encode_spares(first, second, marks, packets, timing_at(state));
-    let duties = spares.first_duties;
+    let duties = encode_lanes(first, second, marks, packets, timing_at(state));
+    let orders = exchanges(marks);
     let refusing = lanes_taken(lanes);
     if refusing < LANES {
         exchange_refused(state, refusing);
-        tell(
-            out,
-            FAULT,
-            refusing as u16 + 6,
-            refused_orders(refusing, marks),
-            [0; LANES],
-        );
+        let event = DshotServiceEvent::Faulted;
+        tell(out, event as u16, &orders[..refusing + 1], &LATCH_ORDERS);
         return;
     }
     frame_started(state, now_ms, next_set.ordinary);
-    tell(
-        out,
-        sent_event(lease_expired),
-        9,
-        start_orders(marks),
-        duties,
-    );
+    tell(out, sent_event(lease_expired), &orders, &STARTED_ORDERS);
+    out[11..].copy_from_slice(&duties);
 }

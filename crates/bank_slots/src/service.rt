@@ -4,46 +4,45 @@
 //
 // The service of a bank: the lease, the frame in flight, the replies that wait, and the next frame set.
 
-ghost use Rattle.std.specs.Prelude.{◌≡◌, ◌*◌, Bool, true, false, [], ◌∷◌, ◌++◌, length, replicate, if◌then◌else◌};
-ghost use Rattle.dshot_bank_spec.specs.State.{Core, Bank, Buffers};
+ghost use Rattle.std.specs.Prelude.{◌≡◌, Bool, false, ◌∷◌, replicate, if◌then◌else◌};
+ghost use Rattle.dshot_reply.specs.Refusals.{status_number};
+ghost use Rattle.dshot_bank_spec.specs.State.{Core, Buffers};
 ghost use Rattle.dshot_bank_spec.specs.Send.{latch_fault};
 ghost use Rattle.dshot_bank_spec.specs.Service as Spec;
 ghost use Rattle.dshot_bank_spec.specs.Service.{demand_expired, expire_lease, service_busy};
 ghost use Rattle.dshot_bank_spec.specs.Calls.{service_call};
-ghost use Rattle.bank_slots_spec.specs.Places.{slots};
 ghost use Rattle.bank_slots_spec.specs.Load.{load};
 ghost use Rattle.bank_slots_spec.specs.Moves.{Moves, on_core};
 ghost use Rattle.bank_slots_spec.specs.Handles.{Skips, Serves};
 ghost use Rattle.bank_slots_spec.specs.Called.{Called, fit, sized, state_at, answer_of, buffers_after};
-ghost use Rattle.bank_slots_spec.specs.Outs.{out_after};
+ghost use Rattle.bank_slots_spec.specs.Outs.{service_event, out_after};
 ghost use Rattle.bank_slots_spec.specs.Arguments.{taken, present, masks};
+ghost use Rattle.dshot_bank.specs.Serves.{service_event_of};
 
 use crate::memory::{bump, flag, long_at};
-use crate::numbers::{BUSY_EVENT, FAULT, LATCH_ORDERS, LEASE_EXPIRED, NO_ORDERS};
+use crate::numbers::{LATCH_ORDERS, tell};
 use crate::replies::read_replies;
-use crate::send::{send, tell};
-use crate::steps::{clear_sent, latch_fault, stop};
+use crate::send::send;
+use crate::steps::{latch_fault, stop};
 use crate::{
-    BUSY, BUSY_SKIPS, FAULTED, FRAME_TIMEOUTS, LANES_SLOTS, LEASE_EXPIRIES, LEASE_OVER,
-    LEASE_STARTED, SERVICE_SLOTS, SLOTS, STARTED,
+    BUFFER_SLOTS, BUSY, BUSY_SKIPS, CAPTURE_SLOTS, FAULTED, FRAME_TIMEOUTS, LANES_SLOTS,
+    LEASE_EXPIRIES, LEASE_OVER, LEASE_STARTED, REQUEST_SENT, SERVICE_SLOTS, SLOTS, STARTED,
 };
-use dshot_bank::service::lengths_fit;
-use dshot_bank::{DSHOT_FRAME_TIMEOUT_MS, LANES};
-use dshot_reply::refusals::WRONG_LENGTH;
+use dshot_bank::DSHOT_FRAME_TIMEOUT_MS;
+use dshot_bank::service::DshotServiceEvent;
+use dshot_reply::refusals::Refusal;
 
-fn expired(state: &[u16], now_ms: u64) -> bool
-    requires { length state.now ≡ slots }
+fn expired(state: &[u16; SLOTS], now_ms: u64) -> bool
     ensures { result ≡ demand_expired now_ms (load state.now).core.demand }
 {
     let lease = long_at(state, LEASE_OVER);
     if lease == 0 {
         return false;
     }
-    std::num::wrapping_sub_u64(now_ms, long_at(state, LEASE_STARTED)) >= lease
+    now_ms.wrapping_sub(long_at(state, LEASE_STARTED)) >= lease
 }
 
-fn end_lease(state: &mut [u16], expired: bool)
-    requires { length state.old ≡ slots }
+fn end_lease(state: &mut [u16; SLOTS], expired: bool)
     ensures { Moves (on_core (expire_lease 4 expired)) state.old state.new }
 {
     if !expired {
@@ -53,62 +52,69 @@ fn end_lease(state: &mut [u16], expired: bool)
     bump(state, LEASE_EXPIRIES);
 }
 
-fn count_busy_skip(state: &mut [u16])
-    requires { length state.old ≡ slots }
+fn count_busy_skip(state: &mut [u16; SLOTS])
     ensures { Moves (on_core Spec.count_busy_skip) state.old state.new }
 {
     bump(state, BUSY_SKIPS);
 }
 
-fn time_out(state: &mut [u16])
-    requires { length state.old ≡ slots }
+fn time_out(state: &mut [u16; SLOTS])
     ensures { Moves (on_core (λ (c : Core). latch_fault 4 false (Spec.count_timeout c))) state.old state.new }
 {
     bump(state, FRAME_TIMEOUTS);
     latch_fault(state, false);
 }
 
-// An event without orders.
-fn tell_event(out: &mut [u16], event: u16)
-    requires { length out.old ≡ 15 }
-    ensures { out.new ≡ event ∷ replicate 14 0 }
+// The number of an event in the answer's slots.
+fn number(event: DshotServiceEvent) -> u16
+    ensures { result ≡ service_event (service_event_of event) }
 {
-    tell(out, event, 0, NO_ORDERS, [0; LANES]);
+    event as u16
+}
+
+// An event without orders.
+fn tell_event(out: &mut [u16; SERVICE_SLOTS], event: DshotServiceEvent)
+    ensures { out.new ≡ service_event (service_event_of event) ∷ replicate 14 0 }
+{
+    tell(out, number(event), &[], &[]);
 }
 
 // A frame is in flight.
-fn serve_busy(state: &mut [u16], now_ms: u64, lease_expired: bool, out: &mut [u16])
-    requires { (length state.old ≡ slots) × (length out.old ≡ 15) }
+fn serve_busy(
+    state: &mut [u16; SLOTS],
+    now_ms: u64,
+    lease_expired: bool,
+    out: &mut [u16; SERVICE_SLOTS],
+)
     ensures { Skips (service_busy 4 now_ms lease_expired) state.old state.new out.new }
 {
     count_busy_skip(state);
     if dshot::command_lease_expired(long_at(state, STARTED), DSHOT_FRAME_TIMEOUT_MS, now_ms) {
         time_out(state);
-        tell(out, FAULT, 5, LATCH_ORDERS, [0; LANES]);
+        tell(out, DshotServiceEvent::Faulted as u16, &[], &LATCH_ORDERS);
         return;
     }
     if lease_expired {
-        tell_event(out, LEASE_EXPIRED);
+        tell_event(out, DshotServiceEvent::LeaseExpired);
         return;
     }
-    tell_event(out, BUSY_EVENT);
+    tell_event(out, DshotServiceEvent::Busy);
 }
 
 fn serve(
-    state: &mut [u16],
+    state: &mut [u16; SLOTS],
     now_ms: u64,
-    lanes: &[u16],
-    first: &mut [u16],
-    second: &mut [u16],
-    captures: &[u16],
-    out: &mut [u16],
+    lanes: &[u16; LANES_SLOTS],
+    first: &mut [u16; BUFFER_SLOTS],
+    second: &mut [u16; BUFFER_SLOTS],
+    captures: &[u16; CAPTURE_SLOTS],
+    out: &mut [u16; SERVICE_SLOTS],
 )
-    requires { (length state.old ≡ slots) × (length lanes.now ≡ 12) × (length first.old ≡ 16 * 4) × (length second.old ≡ 16 * 4) × (length captures.now ≡ 160 * 4) × (length out.old ≡ 15) }
     ensures { Serves (Spec.service 4 now_ms (taken lanes.now) (present lanes.now) (masks lanes.now) captures.now) (record { first = first.entry.now; second = second.old }) (record { first = first.exit.now; second = second.new }) state.old state.new out.new }
 {
-    clear_sent(state);
+    state[REQUEST_SENT] = 0;
     if flag(state[FAULTED]) {
-        tell_event(out, FAULT);
+        tell_event(out, DshotServiceEvent::Faulted);
         return;
     }
     let lease_expired = expired(state, now_ms);
@@ -131,23 +137,25 @@ pub fn service(
     second: &mut [u16],
     captures: &[u16],
     out: &mut [u16],
-) -> u32
-    ensures called { Called (fit bank.old (if sized 12 lanes.now then sized 15 out.old else false)) (service_call now_ms (taken lanes.now) (present lanes.now) (masks lanes.now) captures.now) (record { first = first.entry.now; second = second.old }) bank.old bank.new result }
+) -> Result<(), Refusal>
+    ensures called { Called (fit bank.old (if sized 12 lanes.now then sized 15 out.old else false)) (service_call now_ms (taken lanes.now) (present lanes.now) (masks lanes.now) captures.now) (record { first = first.entry.now; second = second.old }) bank.old bank.new (status_number result) }
     ensures fact { ◌≡◌ {A = Buffers} (record { first = first.exit.now; second = second.new }) (buffers_after (fit bank.old (if sized 12 lanes.now then sized 15 out.old else false)) (state_at bank.old (record { first = first.entry.now; second = second.old })) (service_call now_ms (taken lanes.now) (present lanes.now) (masks lanes.now) captures.now)) }
     ensures out_after { out.new ≡ out_after (answer_of (fit bank.old (if sized 12 lanes.now then sized 15 out.old else false)) (state_at bank.old (record { first = first.entry.now; second = second.old })) (service_call now_ms (taken lanes.now) (present lanes.now) (masks lanes.now) captures.now)) out.old }
 {
-    if bank.len() != SLOTS {
-        return WRONG_LENGTH;
-    }
-    if lanes.len() != LANES_SLOTS {
-        return WRONG_LENGTH;
-    }
-    if out.len() != SERVICE_SLOTS {
-        return WRONG_LENGTH;
-    }
-    if !lengths_fit(first.len(), second.len(), captures.len()) {
-        return WRONG_LENGTH;
-    }
-    serve(bank, now_ms, lanes, first, second, captures, out);
-    0
+    let state = bank.as_mut_array::<SLOTS>().ok_or(Refusal::WrongLength)?;
+    let lanes = lanes.as_array::<LANES_SLOTS>().ok_or(Refusal::WrongLength)?;
+    let out = out
+        .as_mut_array::<SERVICE_SLOTS>()
+        .ok_or(Refusal::WrongLength)?;
+    let first = first
+        .as_mut_array::<BUFFER_SLOTS>()
+        .ok_or(Refusal::WrongLength)?;
+    let second = second
+        .as_mut_array::<BUFFER_SLOTS>()
+        .ok_or(Refusal::WrongLength)?;
+    let captures = captures
+        .as_array::<CAPTURE_SLOTS>()
+        .ok_or(Refusal::WrongLength)?;
+    serve(state, now_ms, lanes, first, second, captures, out);
+    Ok(())
 }

@@ -195,8 +195,8 @@ fn write_spare(
     }
 }
 
-// Writes every lane's sequence into its spare, and returns the first duties.
-fn encode_lanes(
+// Writes every lane's sequence into its spare, and returns the first duties. The bank in slots calls it too.
+pub fn encode_lanes(
     first: &mut Slots,
     second: &mut Slots,
     in_second: LaneFlags,

@@ -1,45 +1,55 @@
--- `bank_slots::commands::command_special` meets its contract: a run queued: each refusal in its turn, or done by `queue`.
+-- `bank_slots::commands::command_special` meets its contract: a run queued: each refusal in its turn, or put.
 -- Assumes nothing.
-use Rattle.std.proofs.Common.{sym, ◌∙◌}
-use Rattle.bank_slots_spec.proofs.CommandCalls.{other-long, special-missing, special-faulted, special-running, special-pending, special-queued}
-use Rattle.bank_slots_spec.proofs.CalledLaws.{with-answer, state-short, called-unfit}
-use Rattle.bank_slots_spec.specs.Called.{sized}
+use Rattle.std.proofs.Common.{◌≡◌, ap, not, rules, sym, ◌∙◌, arith}
+use Rattle.dshot_spec.specs.Command.{CommandRun}
+use Rattle.bank_slots_spec.specs.Load.{load}
+use Rattle.bank_slots_spec.specs.Moves.{on_core}
+use Rattle.bank_slots_spec.specs.Parts.{queued}
+use Rattle.bank_slots_spec.proofs.MoveLaws.{moves-as}
+use Rattle.bank_slots_spec.proofs.CalledLaws.{with-answer}
+use Rattle.bank_slots_spec.proofs.CommandCalls.{special-missing, special-faulted, special-running, special-pending, special-queued}
+use Rattle.bank_slots.proofs.Unfit.{unfit, unfit-number}
 use Rattle.bank_slots.proofs.commands.command_special.Goals as goal
 
-pub returns-then-bank-ne-SLOTS : goal.returns-then-bank-ne-SLOTS
-returns-then-bank-ne-SLOTS c =
-    let a = c.args in
-    let all = with-answer (λ b. called-unfit _ (state-short a.bank.now (sized 4 a.sequence.now) c.if-bank-ne-SLOTS.true)) in record { value = all.0; called = all.1 }
+pub returns-in_err-state : goal.returns-in_err-state
+returns-in_err-state c = record { value = λ b. unfit-number _ _ (search rules) (search rules); called = λ b. unfit (search rules) (search rules) (search rules) }
 
-pub returns-then-sequence-ne4 : goal.returns-then-sequence-ne4
-returns-then-sequence-ne4 c =
-    let a = c.args in
-    let all = with-answer (λ b. called-unfit _ (other-long a.bank.now a.sequence.now 4 c.if-bank-ne-SLOTS.false c.if-sequence-ne4.true)) in record { value = all.0; called = all.1 }
+pub returns-in_err-sequence : goal.returns-in_err-sequence
+returns-in_err-sequence c = record { value = λ b. unfit-number _ _ (search rules) (search rules); called = λ b. unfit (search rules) (search rules) (search rules) }
 
 pub returns-then-motor-ge-LANES : goal.returns-then-motor-ge-LANES
 returns-then-motor-ge-LANES c =
     let a = c.args in
-    let all = with-answer (λ b. special-missing a.bank.now b c.if-bank-ne-SLOTS.false a.motor a.sequence.now c.if-sequence-ne4.false c.if-motor-ge-LANES.true) in record { value = all.0; called = all.1 }
+    let e : c.in_ok-state.state.now ≡ a.bank.now = search rules in
+    let all = with-answer (λ b. special-missing a.bank.now b (search rules) a.motor a.sequence.now (search rules) c.if-motor-ge-LANES.true) in
+    rw e (record { value = all.0; called = all.1 })
 
 pub returns-then-flag : goal.returns-then-flag
 returns-then-flag c =
     let a = c.args in
-    let all = with-answer (λ b. special-faulted a.bank.now b c.if-bank-ne-SLOTS.false a.motor a.sequence.now c.if-sequence-ne4.false c.if-motor-ge-LANES.false (sym c.flag.ensures ∙ c.if-flag.true)) in record { value = all.0; called = all.1 }
+    let e : c.in_ok-state.state.now ≡ a.bank.now = search rules in
+    let all = with-answer (λ b. special-faulted a.bank.now b (search rules) a.motor a.sequence.now (search rules) c.if-motor-ge-LANES.false (search rules)) in
+    rw e (record { value = all.0; called = all.1 })
 
 pub returns-then-is_running : goal.returns-then-is_running
 returns-then-is_running c =
     let a = c.args in
-    let all = with-answer (λ b. special-running a.bank.now b c.if-bank-ne-SLOTS.false a.motor a.sequence.now c.if-sequence-ne4.false c.if-motor-ge-LANES.false (sym c.flag.ensures ∙ c.if-flag.false)
-    (sym c.is_running.ensures ∙ c.if-is_running.true)) in record { value = all.0; called = all.1 }
+    let e : c.in_ok-state.state.now ≡ a.bank.now = search rules in
+    let all = with-answer (λ b. special-running a.bank.now b (search rules) a.motor a.sequence.now (search rules) c.if-motor-ge-LANES.false (search rules) (search rules)) in
+    rw e (record { value = all.0; called = all.1 })
 
-pub returns-then-bank-ne0 : goal.returns-then-bank-ne0
-returns-then-bank-ne0 c =
+pub returns-then-state-ne0 : goal.returns-then-state-ne0
+returns-then-state-ne0 c =
     let a = c.args in
-    let all = with-answer (λ b. special-pending a.bank.now b c.if-bank-ne-SLOTS.false a.motor a.sequence.now c.if-sequence-ne4.false c.if-motor-ge-LANES.false (sym c.flag.ensures ∙ c.if-flag.false)
-    (sym c.is_running.ensures ∙ c.if-is_running.false) c.if-bank-ne0.true) in record { value = all.0; called = all.1 }
+    let e : c.in_ok-state.state.now ≡ a.bank.now = search rules in
+    let all = with-answer (λ b. special-pending a.bank.now b (search rules) a.motor a.sequence.now (search rules) c.if-motor-ge-LANES.false (search rules) (search rules) (search rules)) in
+    rw e (record { value = all.0; called = all.1 })
 
 pub returns : goal.returns
 returns c =
     let a = c.args in
-    let all = with-answer (λ b. special-queued a.bank.now b c.if-bank-ne-SLOTS.false a.motor a.sequence.now c.if-sequence-ne4.false c.if-motor-ge-LANES.false (sym c.flag.ensures ∙ c.if-flag.false)
-    (sym c.is_running.ensures ∙ c.if-is_running.false) c.if-bank-ne0.false c.queue.ensures) in record { value = all.0; called = all.1 }
+    let e : c.in_ok-state.state.now ≡ a.bank.now = search rules in
+    let s : c.in_ok-sequence.sequence.now ≡ a.sequence.now = search rules in
+    let all = with-answer (λ b. special-queued a.bank.now b (search rules) a.motor a.sequence.now (search rules) c.if-motor-ge-LANES.false (search rules) (search rules) (search rules)
+    (moves-as (rw e at c.put_run.ensures) (ap (λ (run : CommandRun). on_core (queued a.motor run) (load a.bank.now)) (rw s at c.run_from.ensures)))) in
+    record { value = all.0; called = all.1 }

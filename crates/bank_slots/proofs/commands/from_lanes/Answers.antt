@@ -1,48 +1,32 @@
 -- `bank_slots::commands::from_lanes` meets its contract: a new bank: refused, or every slot written.
 -- Assumes nothing.
-use Rattle.bank_slots_spec.proofs.CommandCalls.{other-long, not_made, made}
-use Rattle.bank_slots_spec.proofs.CalledLaws.{state-short}
-use Rattle.bank_slots_spec.specs.Called.{sized}
-use Rattle.std.proofs.Common.{ℕ, replicate, ap, ◌∙◌, arith, length-set}
+use Rattle.std.proofs.Common.{◌≡◌, ℕ, ◌+◌, ◌*◌, List, length, set, replicate, ap, ◌∙◌, arith, rules}
+use borrow.Rule.Slice.PartMut.{put_mid}
+use Rattle.dshot_bank_spec.specs.Lanes.{each}
+use Rattle.bank_slots_spec.specs.Places.{REPLIES}
+use Rattle.dshot_bank_spec.proofs.LaneLaws.{each_none, each_more, each_all}
+use Rattle.bank_slots_spec.proofs.CommandCalls.{made}
+use Rattle.bank_slots.proofs.NewBank.{with_no_reply, new-written}
 use Rattle.bank_slots.proofs.commands.from_lanes.Goals as goal
 
-pub returns-then-bank-ne-SLOTS : goal.returns-then-bank-ne-SLOTS
-returns-then-bank-ne-SLOTS c =
-    let xs = c.args.bank.now in
-    let t = c.args.timing.now in
-    let all = not_made xs t (state-short xs (sized 4 t) c.if-bank-ne-SLOTS.true) in record { value = all.0; bank_after = all.1 }
+pub loop-lane-init : goal.loop-lane-init
+loop-lane-init c = each_none _ _
 
-pub returns-then-timing-ne4 : goal.returns-then-timing-ne4
-returns-then-timing-ne4 c =
-    let xs = c.args.bank.now in
-    let t = c.args.timing.now in
-    let all = not_made xs t (other-long xs t 4 c.if-bank-ne-SLOTS.false c.if-timing-ne4.true) in record { value = all.0; bank_after = all.1 }
-
-pub bounds-bank-1 : goal.bounds-bank-1
-bounds-bank-1 c = simp length-set (omega arith)
-
-pub bounds-bank-2 : goal.bounds-bank-2
-bounds-bank-2 c = simp length-set (omega arith)
-
-pub bounds-bank-3 : goal.bounds-bank-3
-bounds-bank-3 c = simp length-set (omega arith)
-
-pub bounds-bank-61 : goal.bounds-bank-61
-bounds-bank-61 c = simp length-set (omega arith)
-
-pub bounds-bank : goal.bounds-bank
-bounds-bank c = simp length-set (omega arith)
-
-pub bounds-bank-4 : goal.bounds-bank-4
-bounds-bank-4 c = simp length-set (omega arith)
-
-pub bounds-bank-5 : goal.bounds-bank-5
-bounds-bank-5 c = simp length-set (omega arith)
-
-pub shape_of-bank : goal.shape_of-bank
-shape_of-bank c = simp length-set (omega arith)
+pub loop-lane-preserved : goal.loop-lane-preserved
+loop-lane-preserved c = each_more _ _ _ c.loop-lane.invariant (ap (set c.loop-lane.state (REPLIES + 9 * c.loop-lane.lane)) c.stored_kind-no_reply.ensures)
 
 pub returns : goal.returns
 returns c =
     let a = c.args in
-    let all = made a.bank.now a.timing.now c.if-bank-ne-SLOTS.false c.if-timing-ne4.false (c.zero.ensures ∙ ap (λ (k : ℕ). replicate k 0) c.if-bank-ne-SLOTS.false) in record { value = all.0; bank_after = all.1 }
+    let n : length c.in_ok-state.state.now ≡ 97 = search rules in
+    let t : c.copy_from_slice.new.self ≡ a.timing.now = search rules in
+    let zs = c.fill.new.self in
+    let all = made a.bank.now a.timing.now (search rules) (search rules) (c.fill.ensures.after (λ y h. h) ∙ ap (λ (k : ℕ). replicate k 0) n) in
+    record {
+      value = all.0;
+      bank_after =
+          each_all with_no_reply _ (omega arith) c.loop-lane-test.false c.loop-lane.invariant
+          ∙ ap (λ (l : List ℕ). each 4 with_no_reply (put_mid 0 4 zs l)) t
+          ∙ new-written a.timing.now zs (search rules) (search rules)
+          ∙ all.1;
+    }

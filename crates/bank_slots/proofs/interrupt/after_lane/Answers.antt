@@ -1,6 +1,7 @@
 -- `bank_slots::interrupt::after_lane` meets its contract: what follows a lane's completion: each return is a case of the tests.
 -- Assumes nothing.
 use Rattle.std.proofs.Common.{sym, refl, ◌∙◌}
+use Rattle.dshot_bank_spec.specs.Order.{begin_receive, end_receive}
 use Rattle.bank_slots_spec.proofs.InterruptMoves.{after-some, after-opened, after-not-opened, after-closed, after-not-closed, after-sent}
 use Rattle.bank_slots.proofs.interrupt.after_lane.Goals as goal
 
@@ -14,7 +15,7 @@ returns-then-not-turned c =
     let a = c.args in
     let all = sym c.word_at.ensures ∙ c.if-word_at-ne-ALL_MOTORS_COMPLETE.false in
     let opens = sym c.opens_window.ensures ∙ c.if-opens_window.true in
-    after-not-opened a.lane a.turned a.turned_back all opens c.if-not-turned.true-raw (c.latched_turning.ensures.handles refl)
+    after-not-opened a.lane a.turned a.turned_back all opens c.if-not-turned.true-raw (c.latched_turning.ensures begin_receive refl)
 
 pub returns-then-opens_window : goal.returns-then-opens_window
 returns-then-opens_window c =
@@ -29,7 +30,7 @@ returns-then-not-turned_back c =
     let all = sym c.word_at.ensures ∙ c.if-word_at-ne-ALL_MOTORS_COMPLETE.false in
     let opens = sym c.opens_window.ensures ∙ c.if-opens_window.false in
     let receiving = sym c.flag.ensures ∙ c.if-flag.true in
-    after-not-closed a.lane a.turned a.turned_back all opens receiving c.if-not-turned_back.true-raw (c.latched_turning-then-not-turned_back.ensures.handles_2 refl)
+    after-not-closed a.lane a.turned a.turned_back all opens receiving c.if-not-turned_back.true-raw (c.latched_turning-then-not-turned_back.ensures end_receive refl)
 
 pub returns-then-flag : goal.returns-then-flag
 returns-then-flag c =

@@ -1,8 +1,7 @@
 -- `bank_slots::interrupt::handle` meets its contract: one interrupt of a lane: each return is a case of the tests.
 -- Assumes nothing.
-use Rattle.std.proofs.Common.{ℕ, not, sym, refl, ap, ◌∙◌}
+use Rattle.std.proofs.Common.{ℕ, not, sym, ap, ◌∙◌}
 use lib.Bits.{bit_and}
-use Rattle.dshot_bank_spec.specs.Interrupt.{faulted, spurious}
 use Rattle.bank_slots_spec.proofs.InterruptMoves.{on-faulted, on-idle, on-again, on-error, on-incomplete, on-complete}
 use Rattle.bank_slots.proofs.interrupt.handle.Goals as goal
 
@@ -16,7 +15,7 @@ returns-then-not-flag c =
     let a = c.args in
     let faults = sym c.flag.ensures ∙ c.if-flag.false in
     let idles = ap not (sym c.flag-2.ensures) ∙ c.if-not-flag.true-raw in
-    on-idle a.lane a.transfer_complete a.dma_error a.turned a.turned_back faults idles (c.latched.ensures spurious refl)
+    on-idle a.lane a.transfer_complete a.dma_error a.turned a.turned_back faults idles (c.latched.ensures)
 
 pub returns-then-word_at-completion_bit-ne0 : goal.returns-then-word_at-completion_bit-ne0
 returns-then-word_at-completion_bit-ne0 c =
@@ -25,7 +24,7 @@ returns-then-word_at-completion_bit-ne0 c =
     let idles = ap not (sym c.flag-2.ensures) ∙ c.if-not-flag.false-raw in
     let bit = c.completion_bit in
     let mask = c.word_at.ensures in
-    on-again a.lane a.transfer_complete a.dma_error a.turned a.turned_back faults idles bit.result bit.ensures (λ e. c.if-word_at-completion_bit-ne0.true (ap (λ (m : ℕ). bit_and m bit.result) mask ∙ e)) (c.latched-then-word_at-completion_bit-ne0.ensures spurious refl)
+    on-again a.lane a.transfer_complete a.dma_error a.turned a.turned_back faults idles bit.result bit.ensures (λ e. c.if-word_at-completion_bit-ne0.true (ap (λ (m : ℕ). bit_and m bit.result) mask ∙ e)) (c.latched-then-word_at-completion_bit-ne0.ensures)
 
 pub returns-then-dma_error : goal.returns-then-dma_error
 returns-then-dma_error c =
@@ -35,7 +34,7 @@ returns-then-dma_error c =
     let bit = c.completion_bit in
     let mask = c.word_at.ensures in
     let again = ap (λ (m : ℕ). bit_and m bit.result) (sym mask) ∙ c.if-word_at-completion_bit-ne0.false in
-    on-error a.lane a.transfer_complete a.dma_error a.turned a.turned_back faults idles bit.result bit.ensures again c.if-dma_error.true (c.latched-then-dma_error.ensures faulted refl)
+    on-error a.lane a.transfer_complete a.dma_error a.turned a.turned_back faults idles bit.result bit.ensures again c.if-dma_error.true (c.latched-then-dma_error.ensures)
 
 pub returns-then-not-transfer_complete : goal.returns-then-not-transfer_complete
 returns-then-not-transfer_complete c =
@@ -45,7 +44,7 @@ returns-then-not-transfer_complete c =
     let bit = c.completion_bit in
     let mask = c.word_at.ensures in
     let again = ap (λ (m : ℕ). bit_and m bit.result) (sym mask) ∙ c.if-word_at-completion_bit-ne0.false in
-    on-incomplete a.lane a.transfer_complete a.dma_error a.turned a.turned_back faults idles bit.result bit.ensures again c.if-dma_error.false c.if-not-transfer_complete.true-raw (c.latched-then-not-transfer_complete.ensures spurious refl)
+    on-incomplete a.lane a.transfer_complete a.dma_error a.turned a.turned_back faults idles bit.result bit.ensures again c.if-dma_error.false c.if-not-transfer_complete.true-raw (c.latched-then-not-transfer_complete.ensures)
 
 pub returns : goal.returns
 returns c =

@@ -9,4 +9,4 @@ pub returns : goal.returns
 returns c =
     let w = c.word_at in
     let k = c.completion_bit in
-    lane_done-moves c.args.state.now _ _ c.requires.0 c.args.lane (bit_or w.result k.result) _ c.requires.1 (λ j. bit_or (w.ensures j) (k.ensures j)) c.put_word.ensures refl c.bump_if.ensures
+    lane_done-moves c.args.state.now _ _ c.told-state c.args.lane (bit_or w.result k.result) _ c.requires (λ j. bit_or (w.ensures j) (k.ensures j)) c.put_word.ensures refl c.bump_if.ensures

@@ -1,12 +1,9 @@
 -- `bank_slots::interrupt::latched_turning` meets its contract: a fault latched after lanes that could not turn around.
 -- Assumes nothing.
-use Rattle.dshot_bank_spec.specs.Order.{begin_receive, end_receive}
+use Rattle.std.proofs.Common.{◌∙◌, ap, ◌∷◌, ℕ, List, []}
 use Rattle.bank_slots_spec.proofs.InterruptMoves.{handles-turning}
 use Rattle.bank_slots.proofs.interrupt.latched_turning.Goals as goal
 
 pub returns : goal.returns
-returns c =
-    let lane = c.args.lane in
-    let m = c.latch_fault.ensures in
-    let t = c.tell.ensures in
-    record { handles = handles-turning lane begin_receive m t; handles_2 = handles-turning lane end_receive m t }
+returns c = λ o e.
+    handles-turning c.args.lane o c.latch_fault.ensures (c.tell.ensures ∙ ap {B = List ℕ} (λ (p : ℕ). 1 ∷ 7 ∷ p ∷ c.args.order ∷ 40 ∷ 48 ∷ 49 ∷ 50 ∷ 51 ∷ []) c.pause.ensures) e

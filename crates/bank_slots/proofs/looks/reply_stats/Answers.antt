@@ -1,50 +1,36 @@
 -- `bank_slots::looks::reply_stats` meets its contract: the counts of replies: refused, or a word after the other.
 -- Assumes nothing.
-use Rattle.std.proofs.Common.{◌∙◌, arith}
-use Rattle.dshot_bank_spec.specs.Calls.{reply_stats}
-use Rattle.bank_slots_spec.proofs.LookLaws.{look-unfit, look-short, reply-stats-told}
+use Rattle.std.proofs.Common.{◌≡◌, ℕ, ◌+◌, ◌*◌, ap, ◌∙◌, arith, rules}
+use Rattle.dshot_bank_spec.specs.Lanes.{each}
+use Rattle.bank_slots_spec.specs.Memory.{write, word_rows}
+use Rattle.dshot_bank_spec.proofs.LaneLaws.{each_none, each_more, each_all}
+use Rattle.bank_slots.proofs.Copied.{counts_copied, all-copied}
+use Rattle.bank_slots.proofs.Unfit.{unfit-number, unfit-out}
 use Rattle.bank_slots.proofs.looks.reply_stats.Goals as goal
 
-pub returns-then-bank-ne-SLOTS : goal.returns-then-bank-ne-SLOTS
-returns-then-bank-ne-SLOTS c =
-    let a = c.args in
-    let all = look-unfit reply_stats 24 a.bank.now a.out.now c.if-bank-ne-SLOTS.true in record { value = all.0; out_after = all.1 }
+pub returns-in_err-state : goal.returns-in_err-state
+returns-in_err-state c = record { value = λ b. unfit-number _ _ (search rules) (search rules); out_after = λ b. unfit-out _ _ (search rules) (search rules) }
 
-pub returns-then-out-ne-REPLY_STATS_SLOTS : goal.returns-then-out-ne-REPLY_STATS_SLOTS
-returns-then-out-ne-REPLY_STATS_SLOTS c =
-    let a = c.args in
-    let all = look-short reply_stats 24 a.bank.now a.out.now c.if-bank-ne-SLOTS.false c.if-out-ne-REPLY_STATS_SLOTS.true in record { value = all.0; out_after = all.1 }
+pub returns-in_err-out : goal.returns-in_err-out
+returns-in_err-out c = record { value = λ b. unfit-number _ _ (search rules) (search rules); out_after = λ b. unfit-out _ _ (search rules) (search rules) }
 
-pub copy_word-requires-8 : goal.copy_word-requires-8
-copy_word-requires-8 c =
-    let l = c.out-7-1.given ∙ c.out-6-1.given ∙ c.out-5-1.given ∙ c.out-4-1.given ∙ c.out-3-1.given ∙ c.out-2-1.given ∙ c.out-1.given ∙ c.if-out-ne-REPLY_STATS_SLOTS.false in
-    omega (arith, l, c.if-bank-ne-SLOTS.false)
+pub loop-count-init : goal.loop-count-init
+loop-count-init c = each_none _ _
 
-pub copy_word-requires-9 : goal.copy_word-requires-9
-copy_word-requires-9 c =
-    let l = c.out-8-1.given ∙ c.out-7-1.given ∙ c.out-6-1.given ∙ c.out-5-1.given ∙ c.out-4-1.given ∙ c.out-3-1.given ∙ c.out-2-1.given ∙ c.out-1.given ∙ c.if-out-ne-REPLY_STATS_SLOTS.false in
-    omega (arith, l, c.if-bank-ne-SLOTS.false)
+pub loop-lane-init : goal.loop-lane-init
+loop-lane-init c = each_none _ _
 
-pub copy_word-requires-10 : goal.copy_word-requires-10
-copy_word-requires-10 c =
-    let l = c.out-9-1.given ∙ c.out-8-1.given ∙ c.out-7-1.given ∙ c.out-6-1.given ∙ c.out-5-1.given ∙ c.out-4-1.given ∙ c.out-3-1.given ∙ c.out-2-1.given ∙ c.out-1.given ∙ c.if-out-ne-REPLY_STATS_SLOTS.false in
-    omega (arith, l, c.if-bank-ne-SLOTS.false)
+pub loop-lane-preserved : goal.loop-lane-preserved
+loop-lane-preserved c = each_more _ _ _ c.loop-lane.invariant
+    (c.put_word.ensures ∙ ap (λ (n : ℕ). write (word_rows (8 * c.loop-count.count + 2 * c.loop-lane.lane) n) c.loop-lane.out) c.word_at.ensures)
 
-pub copy_word-requires-11 : goal.copy_word-requires-11
-copy_word-requires-11 c =
-    let l = c.out-10-1.given ∙ c.out-9-1.given ∙ c.out-8-1.given ∙ c.out-7-1.given ∙ c.out-6-1.given ∙ c.out-5-1.given ∙ c.out-4-1.given ∙ c.out-3-1.given ∙ c.out-2-1.given ∙ c.out-1.given ∙ c.if-out-ne-REPLY_STATS_SLOTS.false in
-    omega (arith, l, c.if-bank-ne-SLOTS.false)
-
-pub copy_word-requires-12 : goal.copy_word-requires-12
-copy_word-requires-12 c =
-    let l = c.out-11-1.given ∙ c.out-10-1.given ∙ c.out-9-1.given ∙ c.out-8-1.given ∙ c.out-7-1.given ∙ c.out-6-1.given ∙ c.out-5-1.given ∙ c.out-4-1.given ∙ c.out-3-1.given ∙ c.out-2-1.given ∙ c.out-1.given ∙ c.if-out-ne-REPLY_STATS_SLOTS.false in
-    omega (arith, l, c.if-bank-ne-SLOTS.false)
-
-pub shape_of-out : goal.shape_of-out
-shape_of-out c =
-    c.out-12-1.given ∙ c.out-11-1.given ∙ c.out-10-1.given ∙ c.out-9-1.given ∙ c.out-8-1.given ∙ c.out-7-1.given ∙ c.out-6-1.given ∙ c.out-5-1.given ∙ c.out-4-1.given ∙ c.out-3-1.given ∙ c.out-2-1.given ∙ c.out-1.given
+pub loop-count-preserved : goal.loop-count-preserved
+loop-count-preserved c = each_more _ _ _ c.loop-count.invariant (each_all _ _ (omega arith) c.loop-lane-test.false c.loop-lane.invariant)
 
 pub returns : goal.returns
 returns c =
     let a = c.args in
-    let all = reply-stats-told a.bank.now a.out.now c.if-bank-ne-SLOTS.false c.if-out-ne-REPLY_STATS_SLOTS.false c.copy_word.ensures c.copy_word-2.ensures c.copy_word-3.ensures c.copy_word-4.ensures c.copy_word-5.ensures c.copy_word-6.ensures c.copy_word-7.ensures c.copy_word-8.ensures c.copy_word-9.ensures c.copy_word-10.ensures c.copy_word-11.ensures c.copy_word-12.ensures in record { value = all.0; out_after = all.1 }
+    let e : c.in_ok-state.state.now ≡ a.bank.now = search rules in
+    let all = all-copied a.bank.now a.out.now (search rules) (search rules) in
+    let o : c.in_ok-out.out.now ≡ a.out.now = search rules in
+    record { value = all.0; out_after = λ b. each_all _ _ (omega arith) c.loop-count-test.false c.loop-count.invariant ∙ (λ j. each 3 (counts_copied (e j)) (o j)) ∙ all.1 b }

@@ -1,30 +1,25 @@
 -- `bank_slots::looks::requested_values` meets its contract: it is refused, or gives the four values in four slots.
 -- Assumes nothing.
-use Rattle.std.proofs.Common.{arith, length-set}
-use Rattle.dshot_bank_spec.specs.Calls.{requested_values_call}
-use Rattle.bank_slots_spec.proofs.LookLaws.{look-unfit, look-short, values-told}
+use Rattle.std.proofs.Common.{◌≡◌, length, sym, ◌∙◌, arith, rules}
+use Rattle.bank_slots.proofs.Unfit.{unfit-number, unfit-out}
+use Rattle.bank_slots_spec.specs.Places.{VALUES}
+use Rattle.bank_slots_spec.proofs.CommandMoves.{values-part}
+use Rattle.bank_slots_spec.proofs.FillLaws.{filled}
+use Rattle.bank_slots_spec.proofs.LookLaws.{values-told}
 use Rattle.bank_slots.proofs.looks.requested_values.Goals as goal
 
-pub returns-then-bank-ne-SLOTS : goal.returns-then-bank-ne-SLOTS
-returns-then-bank-ne-SLOTS c =
-    let a = c.args in
-    let all = look-unfit requested_values_call 4 a.bank.now a.out.now c.if-bank-ne-SLOTS.true in record { value = all.0; out_after = all.1 }
+pub returns-in_err-state : goal.returns-in_err-state
+returns-in_err-state c = record { value = λ b. unfit-number _ _ (search rules) (search rules); out_after = λ b. unfit-out _ _ (search rules) (search rules) }
 
-pub returns-then-out-ne-LANES : goal.returns-then-out-ne-LANES
-returns-then-out-ne-LANES c =
-    let a = c.args in
-    let all = look-short requested_values_call 4 a.bank.now a.out.now c.if-bank-ne-SLOTS.false c.if-out-ne-LANES.true in record { value = all.0; out_after = all.1 }
-
-pub bounds-out-1 : goal.bounds-out-1
-bounds-out-1 c = simp length-set (omega arith)
-
-pub bounds-out-2 : goal.bounds-out-2
-bounds-out-2 c = simp length-set (omega arith)
-
-pub bounds-out-3 : goal.bounds-out-3
-bounds-out-3 c = simp length-set (omega arith)
+pub returns-in_err-out : goal.returns-in_err-out
+returns-in_err-out c = record { value = λ b. unfit-number _ _ (search rules) (search rules); out_after = λ b. unfit-out _ _ (search rules) (search rules) }
 
 pub returns : goal.returns
 returns c =
     let a = c.args in
-    let all = values-told a.bank.now a.out.now c.if-bank-ne-SLOTS.false c.if-out-ne-LANES.false in record { value = all.0; out_after = all.1 }
+    let xs = a.bank.now in
+    let e : c.in_ok-state.state.now ≡ xs = search rules in
+    let n : length xs ≡ 97 = search rules in
+    let l : length a.out.now ≡ 4 = search rules in
+    let all = values-told xs a.out.now n l in
+    record { value = all.0; out_after = λ b. rw e at c.copy_from_slice.ensures.after ∙ sym (values-part xs n) ∙ sym (filled _ a.out.now l) ∙ all.1 b }

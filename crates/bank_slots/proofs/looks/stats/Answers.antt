@@ -1,21 +1,19 @@
 -- `bank_slots::looks::stats` meets its contract: the counts: refused, or copied as they stand.
 -- Assumes nothing.
-use Rattle.std.proofs.Common.{arith}
-use Rattle.dshot_bank_spec.specs.Calls.{stats}
-use Rattle.bank_slots_spec.proofs.LookLaws.{look-unfit, look-short, stats-told}
+use Rattle.std.proofs.Common.{◌≡◌, length, sym, ◌∙◌, arith, rules}
+use Rattle.bank_slots.proofs.Unfit.{unfit-number, unfit-out}
+use Rattle.bank_slots_spec.proofs.LookLaws.{stats-told}
 use Rattle.bank_slots.proofs.looks.stats.Goals as goal
 
-pub returns-then-bank-ne-SLOTS : goal.returns-then-bank-ne-SLOTS
-returns-then-bank-ne-SLOTS c =
-    let a = c.args in
-    let all = look-unfit stats 22 a.bank.now a.out.now c.if-bank-ne-SLOTS.true in record { value = all.0; out_after = all.1 }
+pub returns-in_err-state : goal.returns-in_err-state
+returns-in_err-state c = record { value = λ b. unfit-number _ _ (search rules) (search rules); out_after = λ b. unfit-out _ _ (search rules) (search rules) }
 
-pub returns-then-out-ne-STATS_SLOTS : goal.returns-then-out-ne-STATS_SLOTS
-returns-then-out-ne-STATS_SLOTS c =
-    let a = c.args in
-    let all = look-short stats 22 a.bank.now a.out.now c.if-bank-ne-SLOTS.false c.if-out-ne-STATS_SLOTS.true in record { value = all.0; out_after = all.1 }
+pub returns-in_err-out : goal.returns-in_err-out
+returns-in_err-out c = record { value = λ b. unfit-number _ _ (search rules) (search rules); out_after = λ b. unfit-out _ _ (search rules) (search rules) }
 
 pub returns : goal.returns
 returns c =
     let a = c.args in
-    let all = stats-told a.bank.now a.out.now c.if-bank-ne-SLOTS.false (λ i. omega (arith, c.type_inv.bank i)) c.if-out-ne-STATS_SLOTS.false c.copy.ensures in record { value = all.0; out_after = all.1 }
+    let e : c.in_ok-state.state.now ≡ a.bank.now = search rules in
+    let all = stats-told a.bank.now a.out.now (search rules) (λ i. omega (arith, c.type_inv.bank i)) (search rules) (rw e at c.copy_from_slice.ensures.after) in
+    record { value = all.0; out_after = all.1 }

@@ -1,37 +1,35 @@
 -- `bank_slots::looks::take_replies` meets its contract: it is refused, or gives each lane's reply, and none are held after it.
 -- Assumes nothing.
-use Rattle.std.proofs.Common.{ℕ, set, ap, ◌∙◌, arith, length-set}
-use Rattle.bank_slots_spec.specs.Places.{REPLIES}
-use Rattle.bank_slots_spec.proofs.LookLaws.{take-unfit, take_short, lane_told, replies-taken}
+use Rattle.std.proofs.Common.{◌≡◌, set, ap, ◌∙◌, arith, rules}
+use Rattle.dshot_bank_spec.specs.Lanes.{each}
+use Rattle.dshot_bank_spec.proofs.LaneLaws.{each_none, each_more, each_all}
+use Rattle.bank_slots.proofs.Copied.{reply_handed, all-handed}
+use Rattle.bank_slots.proofs.Parts.{bit-is}
+use Rattle.bank_slots.proofs.Unfit.{unfit, unfit-out}
 use Rattle.bank_slots.proofs.looks.take_replies.Goals as goal
 
-pub returns-then-bank-ne-SLOTS : goal.returns-then-bank-ne-SLOTS
-returns-then-bank-ne-SLOTS c =
-    let all = take-unfit c.args.bank.now c.args.out.now c.if-bank-ne-SLOTS.true in record { called = all.0; out_after = all.1 }
+pub returns-in_err-state : goal.returns-in_err-state
+returns-in_err-state c = record { called = λ b. unfit (search rules) (search rules) (search rules); out_after = λ b. unfit-out _ _ (search rules) (search rules) }
 
-pub returns-then-out-ne-REPLIES_SLOTS : goal.returns-then-out-ne-REPLIES_SLOTS
-returns-then-out-ne-REPLIES_SLOTS c =
-    let all = take_short c.args.bank.now c.args.out.now c.if-bank-ne-SLOTS.false c.if-out-ne-REPLIES_SLOTS.true in record { called = all.0; out_after = all.1 }
+pub returns-in_err-out : goal.returns-in_err-out
+returns-in_err-out c = record { called = λ b. unfit (search rules) (search rules) (search rules); out_after = λ b. unfit-out _ _ (search rules) (search rules) }
 
-pub put_lane-requires : goal.put_lane-requires
-put_lane-requires c = omega (arith, length-set c.args.out.now 0 c.bit.result)
+pub loop-lane-init : goal.loop-lane-init
+loop-lane-init c = each_none _ _
 
-pub put_lane-requires-2 : goal.put_lane-requires-2
-put_lane-requires-2 c = omega (arith, length-set c.args.out.now 0 c.bit.result)
-
-pub put_lane-requires-3 : goal.put_lane-requires-3
-put_lane-requires-3 c = omega (arith, length-set c.args.out.now 0 c.bit.result)
-
-pub put_lane-requires-4 : goal.put_lane-requires-4
-put_lane-requires-4 c = omega (arith, length-set c.args.out.now 0 c.bit.result)
-
-pub shape_of-out : goal.shape_of-out
-shape_of-out c = omega (arith, length-set c.args.out.now 0 c.bit.result)
+pub loop-lane-preserved : goal.loop-lane-preserved
+loop-lane-preserved c = each_more _ _ _ c.loop-lane.invariant c.hand_out.ensures
 
 pub returns : goal.returns
 returns c =
     let a = c.args in
-    let first = ap (λ (b : ℕ). set a.out.now 0 b) c.bit.ensures in
-    let all = replies-taken a.bank.now a.out.now c.if-bank-ne-SLOTS.false c.if-out-ne-REPLIES_SLOTS.false c.flag-held.ensures
-    (c.put_lane.ensures ∙ ap (lane_told a.bank.now a.out.now c.if-bank-ne-SLOTS.false c.if-out-ne-REPLIES_SLOTS.false c.flag-held.result REPLIES 1) first)
-    c.put_lane-2.ensures c.put_lane-3.ensures c.put_lane-4.ensures in record { called = all.0; out_after = all.1 }
+    let e : c.in_ok-state.state.now ≡ a.bank.now = search rules in
+    let o : c.in_ok-out.out.now ≡ a.out.now = search rules in
+    let all = all-handed a.bank.now a.out.now (search rules) (search rules) (rw e at c.flag-held.ensures) in
+    rw e (record {
+      called = all.0;
+      out_after = λ b.
+          each_all _ _ (omega arith) c.loop-lane-test.false c.loop-lane.invariant
+          ∙ (λ j. each 4 (reply_handed (e j) c.flag-held.result) (set (o j) 0 ((c.from.ensures ∙ bit-is c.flag-held.result) j)))
+          ∙ all.1 b;
+    })

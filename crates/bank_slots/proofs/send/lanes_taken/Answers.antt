@@ -1,20 +1,18 @@
 -- `bank_slots::send::lanes_taken` meets its contract: the lanes that took their buffer, lane by lane.
 -- Assumes nothing.
-use Rattle.std.proofs.Common.{not, sym, ap, ◌∙◌}
-use Rattle.bank_slots_spec.proofs.SendMoves.{taken_none, taken-one, taken-two, taken-three, taken-all}
+use Rattle.std.proofs.Common.{not, refl, sym, ap, ◌∙◌}
+use Rattle.dshot_bank_spec.proofs.LaneLaws.{passed_none, passed-more, position-hit, position-miss}
+use Rattle.bank_slots.proofs.Lanes.{taken-at}
 use Rattle.bank_slots.proofs.send.lanes_taken.Goals as goal
 
+pub loop-lane-init : goal.loop-lane-init
+loop-lane-init c = passed_none refl
+
 pub returns-then-not-flag : goal.returns-then-not-flag
-returns-then-not-flag c = taken_none c.args.lanes.now (ap not (sym c.flag.ensures) ∙ c.if-not-flag.true-raw)
+returns-then-not-flag c = position-hit c.loop-lane.invariant c.loop-lane-test.true (ap not (taken-at c.args.lanes.now c.loop-lane.lane c.loop-lane-test.true ∙ sym c.flag.ensures ∙ c.if-not-flag.true))
 
-pub returns-then-not-flag-2 : goal.returns-then-not-flag-2
-returns-then-not-flag-2 c = taken-one c.args.lanes.now (ap not (sym c.flag.ensures) ∙ c.if-not-flag.false-raw) (ap not (sym c.flag-2.ensures) ∙ c.if-not-flag-2.true-raw)
-
-pub returns-then-not-flag-3 : goal.returns-then-not-flag-3
-returns-then-not-flag-3 c = taken-two c.args.lanes.now (ap not (sym c.flag.ensures) ∙ c.if-not-flag.false-raw) (ap not (sym c.flag-2.ensures) ∙ c.if-not-flag-2.false-raw) (ap not (sym c.flag-3.ensures) ∙ c.if-not-flag-3.true-raw)
-
-pub returns-then-not-flag-4 : goal.returns-then-not-flag-4
-returns-then-not-flag-4 c = taken-three c.args.lanes.now (ap not (sym c.flag.ensures) ∙ c.if-not-flag.false-raw) (ap not (sym c.flag-2.ensures) ∙ c.if-not-flag-2.false-raw) (ap not (sym c.flag-3.ensures) ∙ c.if-not-flag-3.false-raw) (ap not (sym c.flag-4.ensures) ∙ c.if-not-flag-4.true-raw)
+pub loop-lane-preserved : goal.loop-lane-preserved
+loop-lane-preserved c = passed-more c.loop-lane.invariant c.loop-lane-test.true (ap not (taken-at c.args.lanes.now c.loop-lane.lane c.loop-lane-test.true ∙ sym c.flag.ensures ∙ c.if-not-flag.false))
 
 pub returns : goal.returns
-returns c = taken-all c.args.lanes.now (ap not (sym c.flag.ensures) ∙ c.if-not-flag.false-raw) (ap not (sym c.flag-2.ensures) ∙ c.if-not-flag-2.false-raw) (ap not (sym c.flag-3.ensures) ∙ c.if-not-flag-3.false-raw) (ap not (sym c.flag-4.ensures) ∙ c.if-not-flag-4.false-raw)
+returns c = position-miss c.loop-lane.invariant c.loop-lane-test.false

@@ -6,14 +6,14 @@ use Rattle.dshot.specs.Answers.{command_of, next_of}
 use Rattle.bank_slots_spec.proofs.SendMoves.{run-next}
 use Rattle.bank_slots.proofs.send.step_run.Goals as goal
 
-pub returns-in-Value : goal.returns-in-Value
-returns-in-Value c =
-    let n = c.next_value-next in
-    let s = run-next c.args.state.now c.requires.1 (next_of n.result) (n.ensures ∙ ap (next_value 10) c.run_from.ensures) (ap command_of c.in-Value.is) c.put_run.ensures in
+pub returns-in-Some : goal.returns-in-Some
+returns-in-Some c =
+    let n = c.next_value in
+    let s = run-next c.args.state.now c.requires (next_of n.result n.new.self) (n.ensures ∙ ap (next_value 10) c.run_from-run.ensures) (ap command_of c.in-Some.is) c.put_run.ensures in
     record { on_lane = omega arith; result_value = s.0; moves = s.1 }
 
 pub returns-in-None : goal.returns-in-None
 returns-in-None c =
-    let n = c.next_value-next in
-    let s = run-next c.args.state.now c.requires.1 (next_of n.result) (n.ensures ∙ ap (next_value 10) c.run_from.ensures) (ap command_of c.in-None.is) c.clear_run.ensures in
+    let n = c.next_value in
+    let s = run-next c.args.state.now c.requires (next_of n.result n.new.self) (n.ensures ∙ ap (next_value 10) c.run_from-run.ensures) (ap command_of c.in-None.is) c.clear_run.ensures in
     record { on_lane = tt; result_value = s.0; moves = s.1 }

@@ -7,4 +7,4 @@ use Rattle.bank_slots.proofs.service.count_busy_skip.Goals as goal
 
 pub returns : goal.returns
 returns c =
-    moves-at (sym c.bump.ensures) (busy-skip-counted c.args.state.now c.requires)
+    moves-at (sym c.bump.ensures) (busy-skip-counted c.args.state.now c.told-state)

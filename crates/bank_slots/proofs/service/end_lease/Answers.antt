@@ -11,4 +11,4 @@ returns-then-not-expired c = lease-lasts c.args.expired (not-true _ c.if-not-exp
 
 pub returns : goal.returns
 returns c =
-    moves-at (sym c.bump.ensures) (lease-ended c.args.expired _ (c.state-1.given ∙ c.requires) (not-false _ c.if-not-expired.false-raw) c.stop.ensures)
+    moves-at (sym c.bump.ensures) (lease-ended c.args.expired _ c.stop.array_long (not-false _ c.if-not-expired.false-raw) c.stop.ensures)

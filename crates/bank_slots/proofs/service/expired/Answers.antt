@@ -1,8 +1,7 @@
 -- `bank_slots::service::expired` meets its contract: whether a lease has expired, from its number, which is one above its duration.
 -- Assumes nothing.
-use Rattle.std.proofs.Common.{ℕ, ◌^◌, sym, ap, ◌∙◌, rules}
+use Rattle.std.proofs.Common.{ℕ, sym, ap, ◌∙◌}
 use Rattle.dshot_spec.specs.Lease.{elapsed}
-use Rattle.dshot.proofs.WrapLaws.{wrapped}
 use Rattle.bank_slots_spec.proofs.ServiceMoves.{no-lease, lease-over}
 use Rattle.bank_slots.proofs.service.expired.Goals as goal
 
@@ -14,6 +13,4 @@ returns-then-lease-eq0 c =
 pub returns : goal.returns
 returns c =
     let a = c.args in
-    let started = c.long_at.result in
-    let passed = wrapped (2 ^ 64) a.now_ms started c.wrapping_sub_u64.result (search rules) (search rules) c.wrapping_sub_u64.ensures.value in
-    lease-over a.now_ms a.state.now c.long_at-lease.result c.wrapping_sub_u64.result c.long_at-lease.ensures c.if-lease-eq0.false (passed ∙ ap (λ (s : ℕ). elapsed 64 s a.now_ms) c.long_at.ensures)
+    lease-over a.now_ms a.state.now c.long_at-lease.result _ c.long_at-lease.ensures c.if-lease-eq0.false (ap (λ (s : ℕ). elapsed 64 s a.now_ms) c.long_at.ensures)

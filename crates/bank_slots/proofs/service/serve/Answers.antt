@@ -2,6 +2,7 @@
 -- Assumes nothing.
 use Rattle.std.proofs.Common.{sym, ◌∙◌}
 use Rattle.dshot_bank_spec.specs.State.{Buffers}
+use Rattle.bank_slots_spec.proofs.FaultMoves.{sent-cleared}
 use Rattle.bank_slots_spec.proofs.ServiceMoves.{serve-faulted, serve-skips, serve-sends}
 use Rattle.bank_slots.proofs.service.serve.Goals as goal
 
@@ -9,7 +10,7 @@ pub returns-then-flag : goal.returns-then-flag
 returns-then-flag c =
     let a = c.args in
     let b : Buffers = record { first = a.first.now; second = a.second.now } in
-    serve-faulted a.now_ms a.lanes.now a.captures.now b c.clear_sent.ensures (sym c.flag.ensures ∙ c.if-flag.true) c.tell_event.ensures
+    serve-faulted a.now_ms a.lanes.now a.captures.now b (sent-cleared a.state.now c.told-state) (sym c.flag.ensures ∙ c.if-flag.true) c.tell_event.ensures
 
 pub returns-then-flag-2 : goal.returns-then-flag-2
 returns-then-flag-2 c =
@@ -17,7 +18,7 @@ returns-then-flag-2 c =
     let b : Buffers = record { first = a.first.now; second = a.second.now } in
     let fault = sym c.flag.ensures ∙ c.if-flag.false in
     let busy = sym c.flag-2.ensures ∙ c.if-flag-2.true in
-    serve-skips a.now_ms a.lanes.now a.captures.now b c.clear_sent.ensures fault c.expired-lease_expired.result c.expired-lease_expired.ensures c.end_lease.ensures busy c.serve_busy.ensures
+    serve-skips a.now_ms a.lanes.now a.captures.now b (sent-cleared a.state.now c.told-state) fault c.expired-lease_expired.result c.expired-lease_expired.ensures c.end_lease.ensures busy c.serve_busy.ensures
 
 pub returns : goal.returns
 returns c =
@@ -25,4 +26,4 @@ returns c =
     let b : Buffers = record { first = a.first.now; second = a.second.now } in
     let fault = sym c.flag.ensures ∙ c.if-flag.false in
     let busy = sym c.flag-2.ensures ∙ c.if-flag-2.false in
-    serve-sends a.now_ms a.lanes.now a.captures.now b c.clear_sent.ensures fault c.expired-lease_expired.result c.expired-lease_expired.ensures c.end_lease.ensures busy c.read_replies.ensures c.send.ensures
+    serve-sends a.now_ms a.lanes.now a.captures.now b (sent-cleared a.state.now c.told-state) fault c.expired-lease_expired.result c.expired-lease_expired.ensures c.end_lease.ensures busy c.read_replies.ensures c.send.ensures

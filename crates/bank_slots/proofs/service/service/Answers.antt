@@ -1,36 +1,70 @@
 -- `bank_slots::service::service` meets its contract: the call: its three promises, by one law a return.
 -- Assumes nothing.
-use Rattle.std.proofs.Common.{sym, ◌∙◌}
-use borrow.Author.Tests.{not-true, not-false}
-use Rattle.dshot_bank.proofs.ReplyLaws.{three-fit}
+use Rattle.std.proofs.Common.{◌≡◌, rules}
+use Rattle.dshot_reply.specs.Refusals.{status_number}
 use Rattle.bank_slots_spec.proofs.ServiceMoves.{call-unfit, call-lanes, call-short, call-refused, call-done}
 use Rattle.bank_slots.proofs.service.service.Goals as goal
 
-pub returns-then-bank-ne-SLOTS : goal.returns-then-bank-ne-SLOTS
-returns-then-bank-ne-SLOTS c = let a = c.args in
-    let all = call-unfit a.now_ms a.lanes.now a.captures.now a.first.now a.second.now a.bank.now a.out.now c.if-bank-ne-SLOTS.true in record { called = all.0; fact = all.1.0; out_after = all.1.1 }
-
-pub returns-then-lanes-ne-LANES_SLOTS : goal.returns-then-lanes-ne-LANES_SLOTS
-returns-then-lanes-ne-LANES_SLOTS c = let a = c.args in
-    let all = call-lanes a.now_ms a.lanes.now a.captures.now a.first.now a.second.now a.bank.now a.out.now c.if-bank-ne-SLOTS.false c.if-lanes-ne-LANES_SLOTS.true in record { called = all.0; fact = all.1.0; out_after = all.1.1 }
-
-pub returns-then-out-ne-SERVICE_SLOTS : goal.returns-then-out-ne-SERVICE_SLOTS
-returns-then-out-ne-SERVICE_SLOTS c = let a = c.args in
-    let all = call-short a.now_ms a.lanes.now a.captures.now a.first.now a.second.now a.bank.now a.out.now c.if-bank-ne-SLOTS.false c.if-lanes-ne-LANES_SLOTS.false c.if-out-ne-SERVICE_SLOTS.true in record { called = all.0; fact = all.1.0; out_after = all.1.1 }
-
-pub returns-then-not-lengths_fit : goal.returns-then-not-lengths_fit
-returns-then-not-lengths_fit c =
+pub returns-in_err-state : goal.returns-in_err-state
+returns-in_err-state c =
     let a = c.args in
-    let misfit = sym c.lengths_fit.ensures ∙ not-true _ c.if-not-lengths_fit.true-raw in
-    let all = call-refused a.now_ms a.lanes.now a.captures.now a.first.now a.second.now a.bank.now a.out.now c.if-bank-ne-SLOTS.false c.if-lanes-ne-LANES_SLOTS.false c.if-out-ne-SERVICE_SLOTS.false misfit in record { called = all.0; fact = all.1.0; out_after = all.1.1 }
+    let r : status_number c.from_residual.result ≡ 13 = search rules in
+    let all = call-unfit a.now_ms a.lanes.now a.captures.now a.first.now a.second.now a.bank.now a.out.now (search rules) in
+    rw (r) (record { called = all.0; fact = all.1.0; out_after = all.1.1 })
 
-pub serve-requires : goal.serve-requires
-serve-requires c =
-    let f = three-fit _ _ _ (sym c.lengths_fit.ensures ∙ not-false _ c.if-not-lengths_fit.false-raw) in
-    (c.if-bank-ne-SLOTS.false, c.if-lanes-ne-LANES_SLOTS.false, f.0, f.1, f.2, c.if-out-ne-SERVICE_SLOTS.false)
+pub returns-in_err-lanes : goal.returns-in_err-lanes
+returns-in_err-lanes c =
+    let a = c.args in
+    let e : c.in_ok-state.state.now ≡ a.bank.now = search rules in
+    let r : status_number c.from_residual-in_err-lanes.result ≡ 13 = search rules in
+    let all = call-lanes a.now_ms a.lanes.now a.captures.now a.first.now a.second.now a.bank.now a.out.now (search rules) (search rules) in
+    rw (e, r) (record { called = all.0; fact = all.1.0; out_after = all.1.1 })
+
+pub returns-in_err-out : goal.returns-in_err-out
+returns-in_err-out c =
+    let a = c.args in
+    let e : c.in_ok-state.state.now ≡ a.bank.now = search rules in
+    let r : status_number c.from_residual-in_err-out.result ≡ 13 = search rules in
+    let all = call-short a.now_ms a.lanes.now a.captures.now a.first.now a.second.now a.bank.now a.out.now (search rules) (search rules) (search rules) in
+    rw (e, r) (record { called = all.0; fact = all.1.0; out_after = all.1.1 })
+
+pub returns-in_err-first : goal.returns-in_err-first
+returns-in_err-first c =
+    let a = c.args in
+    let e : c.in_ok-state.state.now ≡ a.bank.now = search rules in
+    let o : c.in_ok-out.out.now ≡ a.out.now = search rules in
+    let r : status_number c.from_residual-in_err-first.result ≡ 13 = search rules in
+    let all = call-refused a.now_ms a.lanes.now a.captures.now a.first.now a.second.now a.bank.now a.out.now (search rules) (search rules) (search rules) (search rules) in
+    rw (e, o, r) (record { called = all.0; fact = all.1.0; out_after = all.1.1 })
+
+pub returns-in_err-second : goal.returns-in_err-second
+returns-in_err-second c =
+    let a = c.args in
+    let e : c.in_ok-state.state.now ≡ a.bank.now = search rules in
+    let o : c.in_ok-out.out.now ≡ a.out.now = search rules in
+    let f : c.in_ok-first.first.now ≡ a.first.now = search rules in
+    let r : status_number c.from_residual-in_err-second.result ≡ 13 = search rules in
+    let all = call-refused a.now_ms a.lanes.now a.captures.now a.first.now a.second.now a.bank.now a.out.now (search rules) (search rules) (search rules) (search rules) in
+    rw (e, o, f, r) (record { called = all.0; fact = all.1.0; out_after = all.1.1 })
+
+pub returns-in_err-captures : goal.returns-in_err-captures
+returns-in_err-captures c =
+    let a = c.args in
+    let e : c.in_ok-state.state.now ≡ a.bank.now = search rules in
+    let o : c.in_ok-out.out.now ≡ a.out.now = search rules in
+    let f : c.in_ok-first.first.now ≡ a.first.now = search rules in
+    let s : c.in_ok-second.second.now ≡ a.second.now = search rules in
+    let r : status_number c.from_residual-in_err-captures.result ≡ 13 = search rules in
+    let all = call-refused a.now_ms a.lanes.now a.captures.now a.first.now a.second.now a.bank.now a.out.now (search rules) (search rules) (search rules) (search rules) in
+    rw (e, o, f, s, r) (record { called = all.0; fact = all.1.0; out_after = all.1.1 })
 
 pub returns : goal.returns
 returns c =
     let a = c.args in
-    let fit = sym c.lengths_fit.ensures ∙ not-false _ c.if-not-lengths_fit.false-raw in
-    let all = call-done a.now_ms a.lanes.now a.captures.now a.first.now a.second.now a.bank.now a.out.now c.if-bank-ne-SLOTS.false c.if-lanes-ne-LANES_SLOTS.false c.if-out-ne-SERVICE_SLOTS.false fit c.serve.ensures in record { called = all.0; fact = all.1.0; out_after = all.1.1 }
+    let e : c.in_ok-state.state.now ≡ a.bank.now = search rules in
+    let l : c.in_ok-lanes.lanes.now ≡ a.lanes.now = search rules in
+    let f : c.in_ok-first.first.now ≡ a.first.now = search rules in
+    let s : c.in_ok-second.second.now ≡ a.second.now = search rules in
+    let k : c.in_ok-captures.captures.now ≡ a.captures.now = search rules in
+    let all = call-done a.now_ms a.lanes.now a.captures.now a.first.now a.second.now a.bank.now a.out.now (search rules) (search rules) (search rules) (search rules) (rw (e, l, f, s, k) at c.serve.ensures) in
+    record { called = all.0; fact = all.1.0; out_after = all.1.1 }

@@ -5,4 +5,4 @@ use Rattle.bank_slots.proofs.service.time_out.Goals as goal
 
 pub returns : goal.returns
 returns c =
-    timed-out c.args.state.now c.requires c.bump.ensures c.latch_fault.ensures
+    timed-out c.args.state.now c.told-state c.bump.ensures c.latch_fault.ensures

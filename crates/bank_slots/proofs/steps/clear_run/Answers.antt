@@ -1,20 +1,13 @@
 -- `bank_slots::steps::clear_run` meets its contract: the slots of a run cleared.
 -- Assumes nothing.
+use Rattle.std.proofs.Common.{sym, arith}
+use Rattle.bank_slots_spec.specs.Places.{RUN}
 use Rattle.bank_slots_spec.proofs.FaultMoves.{run-cleared}
-use Rattle.std.proofs.Common.{arith, length-set}
+use Rattle.bank_slots_spec.proofs.MoveLaws.{moves-at}
+use Rattle.bank_slots.proofs.Parts.{zeroed}
 use Rattle.bank_slots.proofs.steps.clear_run.Goals as goal
 
-pub bounds-state : goal.bounds-state
-bounds-state c = simp length-set (omega arith)
-
-pub bounds-state-2 : goal.bounds-state-2
-bounds-state-2 c = simp length-set (omega arith)
-
-pub bounds-state-3 : goal.bounds-state-3
-bounds-state-3 c = simp length-set (omega arith)
-
-pub bounds-state-4 : goal.bounds-state-4
-bounds-state-4 c = simp length-set (omega arith)
-
 pub returns : goal.returns
-returns c = run-cleared c.args.state.now c.requires
+returns c =
+    let xs = c.args.state.now in
+    moves-at (sym (zeroed RUN 5 xs (c.fill.ensures.after (λ y h. h)) (omega arith))) (run-cleared xs c.told-state)

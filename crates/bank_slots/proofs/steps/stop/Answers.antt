@@ -1,29 +1,17 @@
 -- `bank_slots::steps::stop` meets its contract: the slots of a demand cleared.
 -- Assumes nothing.
-use Rattle.bank_slots_spec.proofs.FaultMoves.{stopped}
-use Rattle.std.proofs.Common.{arith, length-set}
+use Rattle.std.proofs.Common.{length, sym, ap, ◌∙◌, arith}
+use Rattle.bank_slots_spec.specs.Memory.{write}
+use Rattle.bank_slots_spec.specs.Places.{VALUES, LEASE_OVER}
+use Rattle.bank_slots_spec.proofs.FaultMoves.{zeros, stopped}
+use Rattle.bank_slots_spec.proofs.MemoryLaws.{length-write}
+use Rattle.bank_slots_spec.proofs.MoveLaws.{moves-at}
+use Rattle.bank_slots.proofs.Parts.{zeroed}
 use Rattle.bank_slots.proofs.steps.stop.Goals as goal
 
-pub bounds-state : goal.bounds-state
-bounds-state c = simp length-set (omega arith)
-
-pub bounds-state-2 : goal.bounds-state-2
-bounds-state-2 c = simp length-set (omega arith)
-
-pub bounds-state-3 : goal.bounds-state-3
-bounds-state-3 c = simp length-set (omega arith)
-
-pub bounds-state-12 : goal.bounds-state-12
-bounds-state-12 c = simp length-set (omega arith)
-
-pub bounds-state-5 : goal.bounds-state-5
-bounds-state-5 c = simp length-set (omega arith)
-
-pub bounds-state-6 : goal.bounds-state-6
-bounds-state-6 c = simp length-set (omega arith)
-
-pub bounds-state-7 : goal.bounds-state-7
-bounds-state-7 c = simp length-set (omega arith)
-
 pub returns : goal.returns
-returns c = stopped c.args.state.now c.requires
+returns c =
+    let xs = c.args.state.now in
+    let values = zeroed VALUES 4 xs (c.fill.ensures.after (λ y h. h)) (omega arith) in
+    let lease = zeroed LEASE_OVER 4 _ (c.fill-2.ensures.after (λ y h. h)) (omega (arith, ap length values ∙ length-write (zeros VALUES) xs)) in
+    moves-at (sym (lease ∙ ap (write (zeros LEASE_OVER)) values)) (stopped xs c.told-state)

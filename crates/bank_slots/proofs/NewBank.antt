@@ -1,0 +1,22 @@
+-- The slots of a new bank: the timing written over zeros, and then each lane's reply.
+-- Assumes nothing.
+use Rattle.std.proofs.Common.{◌≡◌, ℕ, ◌+◌, ◌*◌, ◌≤◌, List, length, set, sym, ap, ◌∙◌, arith}
+use borrow.Rule.Slice.PartMut.{put_mid}
+use Rattle.dshot_reply_spec.specs.Refusals.{no_reply}
+use Rattle.dshot_bank_spec.specs.Lanes.{each}
+use Rattle.bank_slots_spec.specs.Memory.{at, write}
+use Rattle.bank_slots_spec.specs.Places.{REPLIES}
+use Rattle.bank_slots_spec.specs.Load.{REFUSED, four}
+use Rattle.bank_slots_spec.specs.Parts.{slot_rows}
+use Rattle.bank_slots_spec.proofs.FieldLaws.{four-back}
+use Rattle.bank_slots_spec.proofs.CommandMoves.{new_rows}
+use Rattle.bank_slots.proofs.Parts.{put-part}
+
+abbrev pub with_no_reply : ℕ → List ℕ → List ℕ
+with_no_reply lane xs = set xs (REPLIES + 9 * lane) (REFUSED + no_reply)
+
+pub new-written : (t zs : List ℕ) → length t ≡ 4 → 4 ≤ length zs → each 4 with_no_reply (put_mid 0 4 zs t) ≡ write (new_rows t) zs
+unfolding each
+new-written t zs h l =
+    ap (each 4 with_no_reply) (put-part 0 4 zs t h (omega arith))
+    ∙ ap (λ (l : List ℕ). each 4 with_no_reply (write (slot_rows 0 l) zs)) (sym (four-back 0 t h))
