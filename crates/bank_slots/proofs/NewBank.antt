@@ -4,9 +4,9 @@ use Rattle.std.proofs.Common.{◌≡◌, ℕ, ◌+◌, ◌*◌, ◌≤◌, List,
 use borrow.Rule.Slice.PartMut.{put_mid}
 use Rattle.dshot_reply_spec.specs.Refusals.{no_reply}
 use Rattle.dshot_bank_spec.specs.Lanes.{each}
-use Rattle.bank_slots_spec.specs.Memory.{at, write}
+use Rattle.bank_slots_spec.specs.Memory.{write}
 use Rattle.bank_slots_spec.specs.Places.{REPLIES}
-use Rattle.bank_slots_spec.specs.Load.{REFUSED, four}
+use Rattle.bank_slots_spec.specs.Load.{REFUSED}
 use Rattle.bank_slots_spec.specs.Parts.{slot_rows}
 use Rattle.bank_slots_spec.proofs.FieldLaws.{four-back}
 use Rattle.bank_slots_spec.proofs.CommandMoves.{new_rows}

@@ -1,6 +1,6 @@
 -- The answer of a service that sends: its exchanges, and behind them the orders of a latched fault, or of a frame set that starts.
 -- Assumes nothing.
-use Rattle.std.proofs.Common.{◌≡◌, ℕ, zero, suc, ◌+◌, ◌-◌, ◌<◌, Bool, List, [], ◌∷◌, ◌++◌, length, take, replicate, refl, sym, ap, ◌∙◌, arith, append-nil}
+use Rattle.std.proofs.Common.{◌≡◌, ℕ, zero, suc, ◌+◌, ◌-◌, ◌<◌, Bool, List, [], ◌∷◌, ◌++◌, length, take, replicate, refl, ap, arith, append-nil}
 use borrow.Rule.Slice.PartMut.{put_mid}
 use Rattle.dshot_spec.specs.Tabulate.{tabulate}
 use Rattle.dshot_bank_spec.specs.Order.{start_orders, refused_orders}

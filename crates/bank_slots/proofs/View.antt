@@ -1,11 +1,11 @@
 -- The view of the sequence that a lane is sending: what the port refuses, and what is shown.
 -- Assumes nothing.
 use Rattle.std.specs.Prelude.{if◌then◌else◌}
-use Rattle.std.proofs.Common.{◌≡◌, ℕ, ◌+◌, ◌-◌, ◌*◌, ◌<◌, ◌≤◌, Bool, true, false, ltb, List, length, take, drop, sym, refl, ap, ◌∙◌, arith, le-ltb, lt-ltb}
+use Rattle.std.proofs.Common.{◌≡◌, ℕ, ◌+◌, ◌-◌, ◌*◌, ◌<◌, ◌≤◌, Bool, true, false, ltb, List, length, take, drop, refl, ap, ◌∙◌, arith, le-ltb, lt-ltb}
 use Rattle.dshot_reply_spec.specs.Answer.{pick}
 use Rattle.dshot_reply_spec.specs.Refusals.{no_such_motor}
 use Rattle.dshot_bank_spec.specs.State.{Buffers}
-use Rattle.dshot_bank_spec.specs.Calls.{State, Stepped, sending, slots, sequence_sent, act}
+use Rattle.dshot_bank_spec.specs.Calls.{Stepped, sending, slots, sequence_sent, act}
 use Rattle.dshot_bank_spec.specs.Steps.{buffers_fit, length_refusal, port_refusal, refuse_or, step}
 use Rattle.bank_slots_spec.specs.Memory.{at}
 use Rattle.bank_slots_spec.specs.Places.{IN_SECOND}

@@ -138,9 +138,5 @@ pub extern "C" fn kuzhenga_command_lease_expired(
 ) -> u32
     ensures { result ≡ flag (lease_expired started_ms duration_ms now_ms) }
 {
-    u32::from(dshot::command_lease_expired(
-        started_ms,
-        duration_ms,
-        now_ms,
-    ))
+    u32::from(dshot::command_lease_expired(started_ms, duration_ms, now_ms))
 }

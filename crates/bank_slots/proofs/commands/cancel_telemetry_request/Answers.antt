@@ -1,6 +1,6 @@
 -- `bank_slots::commands::cancel_telemetry_request` meets its contract: a request withdrawn: refused, or its slot cleared.
 -- Assumes nothing.
-use Rattle.std.proofs.Common.{◌≡◌, ap, not, rules, sym, ◌∙◌, arith}
+use Rattle.std.proofs.Common.{◌≡◌, rules}
 use Rattle.bank_slots_spec.proofs.CalledLaws.{with-answer}
 use Rattle.bank_slots_spec.proofs.CommandCalls.{cancel-done}
 use Rattle.bank_slots.proofs.Unfit.{unfit, unfit-number}

@@ -1,6 +1,6 @@
 -- `bank_slots::commands::command_special` meets its contract: a run queued: each refusal in its turn, or put.
 -- Assumes nothing.
-use Rattle.std.proofs.Common.{◌≡◌, ap, not, rules, sym, ◌∙◌, arith}
+use Rattle.std.proofs.Common.{◌≡◌, ap, rules}
 use Rattle.dshot_spec.specs.Command.{CommandRun}
 use Rattle.bank_slots_spec.specs.Load.{load}
 use Rattle.bank_slots_spec.specs.Moves.{on_core}

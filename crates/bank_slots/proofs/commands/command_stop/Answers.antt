@@ -1,6 +1,6 @@
 -- `bank_slots::commands::command_stop` meets its contract: a stop: refused, or done by `stop`.
 -- Assumes nothing.
-use Rattle.std.proofs.Common.{◌≡◌, ap, not, rules, sym, ◌∙◌, arith}
+use Rattle.std.proofs.Common.{◌≡◌, rules}
 use Rattle.bank_slots_spec.proofs.CalledLaws.{with-answer}
 use Rattle.bank_slots_spec.proofs.CommandCalls.{stop-done}
 use Rattle.bank_slots.proofs.Unfit.{unfit, unfit-number}

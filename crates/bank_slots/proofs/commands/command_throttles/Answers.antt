@@ -1,6 +1,6 @@
 -- `bank_slots::commands::command_throttles` meets its contract: throttles: each refusal in its turn, or a stop, or a demand.
 -- Assumes nothing.
-use Rattle.std.proofs.Common.{◌≡◌, ap, not, rules, sym, ◌∙◌, arith}
+use Rattle.std.proofs.Common.{◌≡◌, rules}
 use Rattle.bank_slots_spec.proofs.CalledLaws.{with-answer}
 use Rattle.bank_slots_spec.proofs.CommandCalls.{throttles-faulted, throttles-high, throttles-stop, throttled}
 use Rattle.bank_slots.proofs.Any.{any-is}

@@ -1,6 +1,6 @@
 -- `bank_slots::commands::enable_bidirectional` meets its contract: bidirectional DShot: refused, or the flag set.
 -- Assumes nothing.
-use Rattle.std.proofs.Common.{◌≡◌, ap, not, rules, sym, ◌∙◌, arith}
+use Rattle.std.proofs.Common.{◌≡◌, ap, not, rules}
 use Rattle.bank_slots_spec.proofs.CalledLaws.{with-answer}
 use Rattle.bank_slots_spec.proofs.CommandCalls.{enable-refused, enabled}
 use Rattle.bank_slots.proofs.Unfit.{unfit, unfit-number}

@@ -1,6 +1,6 @@
 -- `bank_slots::commands::request_telemetry` meets its contract: a request: each refusal in its turn, or its slot written.
 -- Assumes nothing.
-use Rattle.std.proofs.Common.{◌≡◌, ap, not, rules, sym, ◌∙◌, arith}
+use Rattle.std.proofs.Common.{◌≡◌, rules}
 use Rattle.bank_slots_spec.proofs.CalledLaws.{with-answer}
 use Rattle.bank_slots_spec.proofs.CommandCalls.{request-missing, request-faulted, request-pending, request-taken}
 use Rattle.bank_slots.proofs.Unfit.{unfit, unfit-number}

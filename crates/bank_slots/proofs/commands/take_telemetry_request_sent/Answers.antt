@@ -1,7 +1,6 @@
 -- `bank_slots::commands::take_telemetry_request_sent` meets its contract: it is refused, or gives the sent request in two slots and clears it.
 -- Assumes nothing.
-use Rattle.std.proofs.Common.{◌≡◌, ap, not, rules, sym, ◌∙◌, arith}
-use Rattle.bank_slots_spec.proofs.CalledLaws.{with-answer}
+use Rattle.std.proofs.Common.{◌≡◌, rules}
 use Rattle.bank_slots_spec.proofs.CommandCalls.{sent-taken, sent-told}
 use Rattle.bank_slots.proofs.Unfit.{unfit, unfit-out}
 use Rattle.bank_slots_spec.proofs.FaultMoves.{sent-cleared}

@@ -1,8 +1,7 @@
 -- `bank_slots::looks::requested_values` meets its contract: it is refused, or gives the four values in four slots.
 -- Assumes nothing.
-use Rattle.std.proofs.Common.{◌≡◌, length, sym, ◌∙◌, arith, rules}
+use Rattle.std.proofs.Common.{◌≡◌, length, sym, ◌∙◌, rules}
 use Rattle.bank_slots.proofs.Unfit.{unfit-number, unfit-out}
-use Rattle.bank_slots_spec.specs.Places.{VALUES}
 use Rattle.bank_slots_spec.proofs.CommandMoves.{values-part}
 use Rattle.bank_slots_spec.proofs.FillLaws.{filled}
 use Rattle.bank_slots_spec.proofs.LookLaws.{values-told}

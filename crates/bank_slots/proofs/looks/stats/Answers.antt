@@ -1,6 +1,6 @@
 -- `bank_slots::looks::stats` meets its contract: the counts: refused, or copied as they stand.
 -- Assumes nothing.
-use Rattle.std.proofs.Common.{◌≡◌, length, sym, ◌∙◌, arith, rules}
+use Rattle.std.proofs.Common.{◌≡◌, arith, rules}
 use Rattle.bank_slots.proofs.Unfit.{unfit-number, unfit-out}
 use Rattle.bank_slots_spec.proofs.LookLaws.{stats-told}
 use Rattle.bank_slots.proofs.looks.stats.Goals as goal

@@ -1,6 +1,6 @@
 -- `bank_slots::looks::take_replies` meets its contract: it is refused, or gives each lane's reply, and none are held after it.
 -- Assumes nothing.
-use Rattle.std.proofs.Common.{◌≡◌, set, ap, ◌∙◌, arith, rules}
+use Rattle.std.proofs.Common.{◌≡◌, set, ◌∙◌, arith, rules}
 use Rattle.dshot_bank_spec.specs.Lanes.{each}
 use Rattle.dshot_bank_spec.proofs.LaneLaws.{each_none, each_more, each_all}
 use Rattle.bank_slots.proofs.Copied.{reply_handed, all-handed}

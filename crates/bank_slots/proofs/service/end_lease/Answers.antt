@@ -1,6 +1,6 @@
 -- `bank_slots::service::end_lease` meets its contract: a lease that lasts, and one that has ended.
 -- Assumes nothing.
-use Rattle.std.proofs.Common.{sym, ◌∙◌}
+use Rattle.std.proofs.Common.{sym}
 use borrow.Author.Tests.{not-true, not-false}
 use Rattle.bank_slots_spec.proofs.MoveLaws.{moves-at}
 use Rattle.bank_slots_spec.proofs.ServiceMoves.{lease-lasts, lease-ended}

@@ -1,8 +1,7 @@
 -- `bank_slots::steps::clear_requests` meets its contract: the requests and a run cleared, which lie one behind the other.
 -- Assumes nothing.
-use Rattle.std.proofs.Common.{sym, ◌∙◌, arith, length-set}
+use Rattle.std.proofs.Common.{sym, arith, length-set}
 use Rattle.bank_slots_spec.specs.Places.{REQUEST}
-use Rattle.bank_slots_spec.specs.Memory.{write, ◌holds◌}
 use Rattle.bank_slots_spec.proofs.FaultMoves.{request-cleared, sent-cleared, run-cleared, requests-cleared}
 use Rattle.bank_slots_spec.proofs.MoveLaws.{moves-at}
 use Rattle.bank_slots.proofs.Parts.{zeroed}

@@ -1,0 +1,6 @@
+-- `kuzhenga::bank::kuzhenga_bank_request_telemetry` meets its contract: its number is that of the call in slots.
+-- Assumes nothing.
+use Rattle.kuzhenga.proofs.bank.kuzhenga_bank_request_telemetry.Goals as goal
+
+pub returns-clause-called : goal.returns-clause-called
+returns-clause-called c = λ b. rw c.status_number.ensures (c.request_telemetry.ensures.called b)
