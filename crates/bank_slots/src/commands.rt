@@ -22,7 +22,7 @@ ghost use Rattle.bank_slots_spec.specs.Parts.{demanded};
 
 use crate::memory::{flag, joined_long, long_at, put_long};
 use crate::replies::stored_kind;
-use crate::steps::{put_run, run_from, stop};
+use crate::steps::{put_run, run_from, stop, values_at};
 use crate::{
     BIDIRECTIONAL, FAULTED, LEASE_OVER, LEASE_STARTED, PER_LANE, REPLIES, REQUEST, REQUEST_SENT,
     RUN, SLOTS, VALUES,
@@ -75,7 +75,7 @@ pub fn command_stop(bank: &mut [u16]) -> Result<(), Refusal>
     Ok(())
 }
 
-pub(crate) fn any_above(values: &[u16], most: u16) -> bool
+pub(crate) fn any_above(values: &[u16; LANES], most: u16) -> bool
     ensures { result ≡ list_any (nat_lt most) values.now }
 {
     values.iter().any(|value| *value > most)
@@ -128,7 +128,7 @@ pub fn command_throttles(
 fn is_running(state: &[u16; SLOTS]) -> bool
     ensures { result ≡ is_running (load state.now).core.demand }
 {
-    long_at(state, LEASE_OVER) != 0 || any_above(&state[VALUES..LEASE_STARTED], 0)
+    long_at(state, LEASE_OVER) != 0 || any_above(&values_at(state), 0)
 }
 
 // Queues a run of special-command frames for one motor, such as a spin direction change and save. The run takes four slots.

@@ -36,7 +36,12 @@ fn completion_bit(lane: usize) -> u32
     requires { lane < 4 }
     ensures { result ≡ completion_bit lane }
 {
-    1 << lane
+    match lane {
+        0 => 1,
+        1 => 2,
+        2 => 4,
+        _ => 8,
+    }
 }
 
 fn lane_done(state: &mut [u16; SLOTS], lane: usize)

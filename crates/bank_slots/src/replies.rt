@@ -52,6 +52,7 @@ fn stored_number(read: Result<DshotReply, DshotReplyError>) -> u32
 }
 
 // Writes a lane's reply and its counts into the nine slots from `k` on.
+#[inline(always)]
 fn put_lane(
     state: &mut [u16; SLOTS],
     k: usize,

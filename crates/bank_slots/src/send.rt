@@ -27,10 +27,10 @@ ghost use Rattle.bank_slots.specs.Frames.{motor_command_of, OnLane, Sets, exchan
 use crate::commands::any_above;
 use crate::memory::{bump, flag, put_long, put_word};
 use crate::numbers::{EXCHANGE_BUFFER, LATCH_ORDERS, SECOND, STARTED_ORDERS, tell};
-use crate::steps::{clear_run, latch_fault, put_run, run_from};
+use crate::steps::{clear_run, latch_fault, put_run, run_from, values_at};
 use crate::{
     BIDIRECTIONAL, BUFFER_SLOTS, BUSY, COMPLETION_MASK, FRAMES_STARTED, IN_SECOND, LANES_SLOTS,
-    LEASE_STARTED, REQUEST, REQUEST_SENT, RUN, SERVICE_SLOTS, SLOTS, STARTED, VALUES,
+    REQUEST, REQUEST_SENT, RUN, SERVICE_SLOTS, SLOTS, STARTED,
 };
 use dshot::{ChecksumKind, DshotTiming, MotorValues};
 use dshot_bank::LANES;
@@ -78,7 +78,7 @@ fn next_command_frame(state: &mut [u16; SLOTS]) -> FrameCommand
     ensures result_value { motor_command_of result ≡ (next_command_frame (load state.old).core).command }
     ensures moves { Moves (on_core run_stepped) state.old state.new }
 {
-    if any_above(&state[VALUES..LEASE_STARTED], 0) {
+    if any_above(&values_at(state), 0) {
         clear_run(state);
         return None;
     }
@@ -89,17 +89,6 @@ fn next_command_frame(state: &mut [u16; SLOTS]) -> FrameCommand
 }
 
 // ---- what is sent
-
-fn values_at(state: &[u16; SLOTS]) -> MotorValues
-    ensures { result ≡ (load state.now).core.demand.requested_values }
-{
-    [
-        state[VALUES],
-        state[VALUES + 1],
-        state[VALUES + 2],
-        state[VALUES + 3],
-    ]
-}
 
 // The values with one lane's command.
 fn one_lane(motor: usize, command: u16) -> MotorValues

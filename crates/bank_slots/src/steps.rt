@@ -11,7 +11,7 @@ ghost use Rattle.dshot_bank_spec.specs.With.{with_command_sequence};
 ghost use Rattle.dshot_bank_spec.specs.Send.{latch_fault};
 ghost use Rattle.bank_slots_spec.specs.Memory.{at};
 ghost use Rattle.bank_slots_spec.specs.Places.{slots};
-ghost use Rattle.bank_slots_spec.specs.Load.{run_from};
+ghost use Rattle.bank_slots_spec.specs.Load.{load, run_from};
 ghost use Rattle.bank_slots_spec.specs.Moves.{Moves, on_core};
 ghost use Rattle.bank_slots_spec.specs.Parts.{bumped, fault_counted, flags_latched, requests_cleared, queued};
 
@@ -20,7 +20,18 @@ use crate::{
     BUSY, DMA_FAULTS, FAULTED, LEASE_OVER, LEASE_STARTED, RECEIVING, REPLIES_WAITING, REQUEST, RUN,
     SLOTS, SPURIOUS, VALUES,
 };
-use dshot::DshotCommandSequence;
+use dshot::{DshotCommandSequence, MotorValues};
+
+pub(crate) fn values_at(state: &[u16; SLOTS]) -> MotorValues
+    ensures { result ≡ (load state.now).core.demand.requested_values }
+{
+    [
+        state[VALUES],
+        state[VALUES + 1],
+        state[VALUES + 2],
+        state[VALUES + 3],
+    ]
+}
 
 pub(crate) fn clear_run(state: &mut [u16; SLOTS])
     ensures { Moves (on_core (with_command_sequence none)) state.old state.new }
