@@ -5,13 +5,7 @@ use borrow.Rule.Slice.PartMut.{put_mid}
 use Rattle.dshot_spec.specs.Tabulate.{tabulate}
 use Rattle.dshot_bank_spec.specs.Order.{start_orders, refused_orders}
 use Rattle.bank_slots_spec.specs.Outs.{code_given, codes}
-use Rattle.bank_slots.specs.Frames.{exchange_codes}
-
--- the slots if a lane refuses, by the exchanges
-abbrev pub refused_slots : ℕ → List ℕ → List ℕ
-refused_slots lane exchanges =
-    let l = take (lane + 1) exchanges in
-    3 ∷ (length l + 5) ∷ (l ++ ((40 ∷ 48 ∷ 49 ∷ 50 ∷ 51 ∷ []) ++ replicate (15 - (2 + length l + 5)) 0))
+use Rattle.bank_slots.specs.Frames.{exchange_codes, refused_slots}
 
 pub refused-told : (marks : List Bool) (lane : ℕ) → lane < 4 → refused_slots lane (exchange_codes marks) ≡ 3 ∷ (lane + 6) ∷ (codes 9 (code_given marks) (refused_orders 4 lane) ++ replicate 4 0)
 unfolding tabulate

@@ -1,6 +1,6 @@
 -- What the private functions that send a frame set return, in the terms of the definitions. Only private functions cite this.
 -- Assumes nothing.
-use Rattle.std.specs.Prelude.{ℕ, ◌+◌, ◌*◌, ◌≡◌, ◌<◌, Bool, false, not, List, get_or, Option, Some, None}
+use Rattle.std.specs.Prelude.{ℕ, ◌+◌, ◌-◌, ◌*◌, ◌≡◌, ◌<◌, Bool, false, not, List, [], ◌∷◌, ◌++◌, length, take, replicate, get_or, Option, Some, None}
 use Rattle.std.proofs.Math.Option.{none, some}
 use Rattle.std.proofs.Math.Option as Spec
 use Rattle.dshot.specs.Answers.{lane_of}
@@ -31,3 +31,9 @@ pub record Sets (r : FrameSet) (c : Core) (m : Spec.Option MotorCommand) : Type 
 -- the orders to exchange, by the marks
 abbrev pub exchange_codes : List Bool → List ℕ
 exchange_codes marks = four (λ (i : ℕ). 8 * 1 + i + 4 * bit (not (get_or marks i false)))
+
+-- the slots if a lane refuses, by the exchanges
+abbrev pub refused_slots : ℕ → List ℕ → List ℕ
+refused_slots lane exchanges =
+    let l = take (lane + 1) exchanges in
+    3 ∷ (length l + 5) ∷ (l ++ ((40 ∷ 48 ∷ 49 ∷ 50 ∷ 51 ∷ []) ++ replicate (15 - (2 + length l + 5)) 0))

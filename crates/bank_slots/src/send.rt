@@ -22,7 +22,7 @@ ghost use Rattle.bank_slots_spec.specs.Moves.{Moves, on_core};
 ghost use Rattle.bank_slots_spec.specs.Handles.{Serves};
 ghost use Rattle.bank_slots_spec.specs.Arguments.{taken};
 ghost use Rattle.bank_slots_spec.specs.Parts.{run_stepped, marks_turned, carried_by, request_carried, in_flight};
-ghost use Rattle.bank_slots.specs.Frames.{motor_command_of, OnLane, Sets, exchange_codes};
+ghost use Rattle.bank_slots.specs.Frames.{motor_command_of, OnLane, Sets, exchange_codes, refused_slots};
 
 use crate::commands::any_above;
 use crate::memory::{bump, flag, put_long, put_word};
@@ -257,6 +257,21 @@ fn sent_event(lease_expired: bool) -> u16
     }
 }
 
+// The answer if a lane refuses its buffer: the exchanges up to that lane, and the orders of a latched fault. Each number of exchanges has a line of its
+// own. Otherwise the archive would need `memcpy`.
+fn tell_refused(out: &mut [u16; SERVICE_SLOTS], lane: usize, exchanges: &[u16; LANES])
+    requires { lane < 4 }
+    ensures { out.new ≡ refused_slots lane exchanges.now }
+{
+    let event = DshotServiceEvent::Faulted as u16;
+    match lane {
+        0 => tell(out, event, &exchanges[..1], &LATCH_ORDERS),
+        1 => tell(out, event, &exchanges[..2], &LATCH_ORDERS),
+        2 => tell(out, event, &exchanges[..3], &LATCH_ORDERS),
+        _ => tell(out, event, &exchanges[..4], &LATCH_ORDERS),
+    }
+}
+
 pub(crate) fn send(
     state: &mut [u16; SLOTS],
     now_ms: u64,
@@ -279,8 +294,7 @@ pub(crate) fn send(
     let refusing = lanes_taken(lanes);
     if refusing < LANES {
         exchange_refused(state, refusing);
-        let event = DshotServiceEvent::Faulted;
-        tell(out, event as u16, &orders[..refusing + 1], &LATCH_ORDERS);
+        tell_refused(out, refusing, &orders);
         return;
     }
     frame_started(state, now_ms, next_set.ordinary);
