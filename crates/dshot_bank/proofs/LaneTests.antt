@@ -1,7 +1,7 @@
 -- The tests of lists that the code makes are those of the definitions.
 -- Assumes nothing.
 use Rattle.std.specs.Prelude.{Some, None, cond, if◌then◌else◌}
-use Rattle.std.proofs.Common.{◌≡◌, ℕ, suc, ◌+◌, ◌<◌, ltb, length, Bool, true, false, not, ◌||◌, List, [], ◌∷◌, refl, ◌∙◌, arith}
+use Rattle.std.proofs.Common.{◌≡◌, ℕ, suc, ◌+◌, ◌<◌, ltb, length, Bool, true, false, not, ◌||◌, List, [], ◌∷◌, refl, sym, ap, ◌∙◌, arith}
 use borrow.Author.Tests.{ltb-true}
 use Rattle.std.specs.List as First
 use Rattle.std.specs.List.{list_any, position_or_len}
@@ -34,3 +34,11 @@ placed p xs n e = at (ltb (position_or_len p xs) (length xs)) refl e
     at : (b : Bool) → ltb (position_or_len p xs) (length xs) ≡ b → Some n ≡ cond b (Some (position_or_len p xs)) None → (n ≡ position p xs) × (n < length xs)
     at true t h = let k : n ≡ position_or_len p xs = cc in (k ∙ position_is p xs, omega (arith, ltb-true _ _ t))
     at false t h = cc
+
+-- no place is found
+pub unplaced : {A : Type 0} (p : A → Bool) (xs : List A) → None ≡ First.position p xs → ltb (position p xs) (length xs) ≡ false
+unplaced p xs e = at (ltb (position_or_len p xs) (length xs)) refl e
+  where
+    at : (b : Bool) → ltb (position_or_len p xs) (length xs) ≡ b → None ≡ cond b (Some (position_or_len p xs)) None → ltb (position p xs) (length xs) ≡ false
+    at true t h = cc
+    at false t h = ap (λ (n : ℕ). ltb n (length xs)) (sym (position_is p xs)) ∙ t

@@ -16,7 +16,7 @@ ghost use Rattle.dshot_bank_spec.specs.Calls as Call;
 ghost use Rattle.dshot_bank_spec.specs.Calls.{reply_counts};
 ghost use Rattle.dshot_bank_spec.specs.Steps.{step};
 ghost use Rattle.dshot_bank.specs.States.{stored_answer, lane_reply_of, replies_of, state_of, stepped};
-ghost use Rattle.dshot_bank.specs.Answers.{taken_answer, reply_stats_of};
+ghost use Rattle.dshot_bank.specs.Answers.{answers_of, taken_answer, reply_stats_of};
 
 use crate::{DshotBank, LANES, LaneReply, Samples, StoredReply};
 use dshot::MotorValues;
@@ -165,6 +165,12 @@ pub(crate) fn read_replies(
     }
 }
 
+fn reads_of(lanes: [LaneReply; LANES]) -> DshotReplies
+    ensures { answers_of result ≡ Call.replies_of (replies_of lanes) }
+{
+    lanes.map(|lane| lane.reply.read())
+}
+
 #[tactic(auto, unfolding(dshot_bank_spec::specs::Steps::step, dshot_bank_spec::specs::Steps::port_refusal))]
 impl DshotBank {
     // The replies decoded since the last call, once.
@@ -179,7 +185,7 @@ impl DshotBank {
         }
         self.core.frame.replies_held = false;
         RepliesTaken {
-            replies: Some(self.replies.map(|lane| lane.reply.read())),
+            replies: Some(reads_of(self.replies)),
             bank: self,
         }
     }
@@ -187,10 +193,16 @@ impl DshotBank {
     pub fn reply_stats(self) -> DshotReplyStats
         ensures { (b : Buffers) → stepped (reply_counts (reply_stats_of result)) self b ≡ step 4 (state_of self b) Call.reply_stats }
     {
+        let [a, b, c, d] = self.replies;
         DshotReplyStats {
-            valid: self.replies.map(|lane| lane.valid),
-            invalid: self.replies.map(|lane| lane.invalid),
-            consecutive_invalid: self.replies.map(|lane| lane.consecutive_invalid),
+            valid: [a.valid, b.valid, c.valid, d.valid],
+            invalid: [a.invalid, b.invalid, c.invalid, d.invalid],
+            consecutive_invalid: [
+                a.consecutive_invalid,
+                b.consecutive_invalid,
+                c.consecutive_invalid,
+                d.consecutive_invalid,
+            ],
         }
     }
 }

@@ -306,7 +306,6 @@ impl Core {
         core
     }
 
-    #[tactic(auto, using(crate::proofs::LaneTests::position_is), unfolding(dshot_bank_spec::specs::Send::exchange_buffers, dshot_spec::specs::Tabulate::tabulate))]
     fn exchange_buffers(
         self,
         now_ms: u64,
