@@ -24,6 +24,11 @@ first-two [] event count h = absurd (omega arith)
 first-two (x ∷ []) event count h = absurd (omega arith)
 first-two (x ∷ y ∷ out) event count h = refl
 
+-- the four parts of an answer, one behind the other
+one-behind : (event count : ℕ) (first then rest : List ℕ) → (((event ∷ count ∷ []) ++ first) ++ then) ++ (rest ++ []) ≡ event ∷ count ∷ (first ++ (then ++ rest))
+one-behind event count first then rest =
+    ap (λ (l : List ℕ). (event ∷ count ∷ (first ++ then)) ++ l) (append-nil rest) ∙ ap (λ (l : List ℕ). event ∷ count ∷ l) (append_assoc first then rest)
+
 module _ (out first then : List ℕ) (event count : ℕ) {n : ℕ} (long : length out ≡ n) (fits : 2 + length first + length then ≤ n) where
   abbrev end : ℕ
   end = 2 + length first + length then
@@ -50,6 +55,5 @@ module _ (out first then : List ℕ) (event count : ℕ) {n : ℕ} (long : lengt
       ∙ ap (λ (l : List ℕ). l ++ then) (filled-to first start 2 (simp length-set (omega arith)) ∙ ap (λ (l : List ℕ). l ++ first) (first-two out event count (omega arith))) in
       let zeros : length (mid_of end (length b - end) b) ≡ n - end = simp (length-take, length-drop) (omega arith) in
       let none : drop (length b - end) (drop end b) ≡ [] = drop_of_length-le (drop end b) (omega (arith, length-drop end b)) in
-      (λ j. front j ++ ((r ∙ ap (λ (k : ℕ). replicate k 0) zeros) j ++ none j))
-      ∙ ap (λ (l : List ℕ). (event ∷ count ∷ (first ++ then)) ++ l) (append-nil (replicate (n - end) 0))
-      ∙ ap (λ (l : List ℕ). event ∷ count ∷ l) (append_assoc first then (replicate (n - end) 0))
+      let rest : z ≡ replicate (n - end) 0 = r ∙ ap (λ (k : ℕ). replicate k 0) zeros in
+      (λ j. front j ++ (rest j ++ none j)) ∙ one-behind event count first then (replicate (n - end) 0)

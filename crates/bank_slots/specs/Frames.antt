@@ -9,7 +9,6 @@ use Rattle.dshot_bank_spec.specs.Commands.{MotorCommand}
 use Rattle.dshot_bank_spec.specs.FrameSet.{frame_set}
 use Rattle.bank_slots_spec.specs.Load.{four}
 use Rattle.bank_slots_spec.specs.Store.{bit}
-use Rattle.bank_slots_spec.specs.Parts.{carried_by}
 use Rattle.bank_slots.specs.declared.send.FrameSet.{FrameSet}
 
 -- the Rust's `Option<(DshotMotor, u16)>`
@@ -22,11 +21,10 @@ abbrev pub OnLane : Option (ℕ × ℕ) → Type 0
 OnLane None = Unit
 OnLane (Some (m, v)) = m < 4
 
--- The code and the definition have the same values, telemetry lane and carried request.
+-- The code and the definition have the same values and telemetry lane.
 pub record Sets (r : FrameSet) (c : Core) (m : Spec.Option MotorCommand) : Type 0 where
   pub values : r.values ≡ (frame_set 4 c m).values
   pub lane : lane_of r.telemetry_lane ≡ (frame_set 4 c m).telemetry_lane
-  pub request : carried_by r.ordinary c ≡ (frame_set 4 c m).telemetry_request
 
 -- the orders to exchange, by the marks
 abbrev pub exchange_codes : List Bool → List ℕ

@@ -20,13 +20,14 @@ ghost use Rattle.bank_slots_spec.specs.Outs.{motor_slots, out_after};
 ghost use Rattle.bank_slots_spec.specs.Arguments.{run_given};
 ghost use Rattle.bank_slots_spec.specs.Parts.{demanded};
 
-use crate::memory::{flag, joined_long, long_at, put_long};
+use crate::memory::{flag, joined_long, long_at, motor_in, put_long};
 use crate::replies::stored_kind;
 use crate::steps::{put_run, run_from, stop, values_at};
 use crate::{
     BIDIRECTIONAL, FAULTED, LEASE_OVER, LEASE_STARTED, PER_LANE, REPLIES, REQUEST, REQUEST_SENT,
     RUN, SLOTS, VALUES,
 };
+use dshot::throttle_to_dshot;
 use dshot_bank::{DSHOT_COMMAND_MAX, LANES};
 use dshot_reply::DshotReplyError;
 use dshot_reply::refusals::Refusal;
@@ -81,17 +82,22 @@ pub(crate) fn any_above(values: &[u16; LANES], most: u16) -> bool
     values.iter().any(|value| *value > most)
 }
 
+// Inlined, because the compiler then knows from the test before it that each throttle is at most 2000.
+#[inline(always)]
 fn demand(state: &mut [u16; SLOTS], commands: &[u16; LANES], now_ms: u64, lease_duration_ms: u32)
     ensures { Moves (on_core (demanded commands.now now_ms lease_duration_ms)) state.old state.new }
 {
-    // Each is read by itself, as in the test before this: the compiler then knows that it is at most 2000.
     let [a, b, c, d] = *commands;
-    let values = dshot::throttles_to_dshot([a, b, c, d]);
     // The four values are stored at once. A service reads them in one load, which would have to wait for several stores.
     put_long(
         state,
         VALUES,
-        joined_long(values[0], values[1], values[2], values[3]),
+        joined_long(
+            throttle_to_dshot(a),
+            throttle_to_dshot(b),
+            throttle_to_dshot(c),
+            throttle_to_dshot(d),
+        ),
     );
     put_long(state, LEASE_STARTED, now_ms);
     put_long(state, LEASE_OVER, u64::from(lease_duration_ms) + 1);
@@ -192,10 +198,10 @@ pub fn cancel_telemetry_request(bank: &mut [u16]) -> Result<(), Refusal>
 fn choice_slots(slot: u16) -> [u16; 2]
     ensures { result ≡ motor_slots (choice slot) }
 {
-    if slot == 0 {
-        return [0, 0];
+    match motor_in(slot) {
+        Some(lane) => [1, lane as u16],
+        None => [0, 0],
     }
-    [1, (slot - 1) % 4]
 }
 
 // Takes the lane whose telemetry bit was included in the frame started by the most recent `service` call, in two slots.

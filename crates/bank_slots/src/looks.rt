@@ -22,9 +22,10 @@ ghost use Rattle.bank_slots_spec.specs.Parts.{slot_rows};
 
 use crate::memory::{flag, put_word, word_at};
 use crate::replies::error_slot;
+use crate::steps::values_at;
 use crate::{
-    BIDIRECTIONAL, BUFFER_SLOTS, FAULTED, FRAMES_STARTED, IN_SECOND, LEASE_STARTED, PER_LANE,
-    REPLIES, REPLIES_HELD, REPLIES_SLOTS, REPLY_STATS_SLOTS, RUN, SLOTS, STATS_SLOTS, VALUES,
+    BIDIRECTIONAL, BUFFER_SLOTS, FAULTED, FRAMES_STARTED, IN_SECOND, PER_LANE, REPLIES,
+    REPLIES_HELD, REPLIES_SLOTS, REPLY_STATS_SLOTS, RUN, SLOTS, STATS_SLOTS,
 };
 use dshot::COMPARE_DMA_SLOTS;
 use dshot_bank::LANES;
@@ -74,7 +75,7 @@ pub fn requested_values(bank: &[u16], out: &mut [u16]) -> Result<(), Refusal>
 {
     let state = bank.as_array::<SLOTS>().ok_or(Refusal::WrongLength)?;
     let out = out.as_mut_array::<LANES>().ok_or(Refusal::WrongLength)?;
-    out.copy_from_slice(&state[VALUES..LEASE_STARTED]);
+    *out = values_at(state);
     Ok(())
 }
 

@@ -1,6 +1,8 @@
 // Added: numbers of 32 and 64 bits in slots of 16, the lowest bits first.
 
 ghost use Rattle.std.specs.Prelude.{◌≡◌, ◌+◌, ◌*◌, ◌<◌, length};
+ghost use Rattle.dshot.specs.Answers.{lane_of};
+ghost use Rattle.dshot_bank_spec.specs.FrameSet.{as_lane};
 ghost use Rattle.dshot_bank_spec.specs.Replies.{wrapping_add};
 ghost use Rattle.bank_slots_spec.specs.Memory.{at, word, long, write, word_rows, long_rows};
 ghost use Rattle.bank_slots_spec.specs.Places.{slots};
@@ -13,6 +15,16 @@ pub(crate) fn flag(slot: u16) -> bool
     ensures { result ≡ Load.flag slot }
 {
     slot != 0
+}
+
+// The motor in a slot: 0 means none, and a lane is one more.
+pub(crate) fn motor_in(slot: u16) -> Option<usize>
+    ensures { lane_of result ≡ as_lane (Load.choice slot) }
+{
+    if slot == 0 {
+        return None;
+    }
+    Some(((slot - 1) % 4) as usize)
 }
 
 fn joined(low: u16, high: u16) -> u32

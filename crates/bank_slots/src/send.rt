@@ -5,18 +5,17 @@
 // Sending a frame set.
 
 ghost use Rattle.std.specs.Prelude.{◌≡◌, ◌+◌, ◌*◌, ◌<◌, ◌≤◌, Bool, not, [], replicate, slice_set, if◌then◌else◌};
-ghost use Rattle.dshot.specs.Answers.{kind_of, lane_of, timing_of};
+ghost use Rattle.dshot.specs.Answers.{kind_of, timing_of};
 ghost use Rattle.dshot_bank_spec.specs.Lanes.{position};
 ghost use Rattle.dshot_bank_spec.specs.State.{Core, Bank, Buffers};
 ghost use Rattle.dshot_bank_spec.specs.Commands.{next_of_run, next_command_frame};
 ghost use Rattle.dshot_bank_spec.specs.With.{with_command_sequence};
-ghost use Rattle.dshot_bank_spec.specs.FrameSet.{kind_sent, as_lane};
+ghost use Rattle.dshot_bank_spec.specs.FrameSet.{kind_sent};
 ghost use Rattle.dshot_bank_spec.specs.Send.{exchange_refused, frame_started};
 ghost use Rattle.dshot_bank_spec.specs.Service as Spec;
 ghost use Rattle.bank_slots_spec.specs.Memory.{at};
 ghost use Rattle.bank_slots_spec.specs.Places as Places;
 ghost use Rattle.bank_slots_spec.specs.Load.{load};
-ghost use Rattle.bank_slots_spec.specs.Load as Load;
 ghost use Rattle.bank_slots_spec.specs.Store as Store;
 ghost use Rattle.bank_slots_spec.specs.Moves.{Moves, on_core};
 ghost use Rattle.bank_slots_spec.specs.Handles.{Serves};
@@ -25,7 +24,7 @@ ghost use Rattle.bank_slots_spec.specs.Parts.{run_stepped, marks_turned, carried
 ghost use Rattle.bank_slots.specs.Frames.{motor_command_of, OnLane, Sets, exchange_codes, refused_slots};
 
 use crate::commands::any_above;
-use crate::memory::{bump, flag, put_long, put_word};
+use crate::memory::{bump, flag, motor_in, put_long, put_word};
 use crate::numbers::{EXCHANGE_BUFFER, LATCH_ORDERS, SECOND, STARTED_ORDERS, tell};
 use crate::steps::{clear_run, latch_fault, put_run, run_from, values_at};
 use crate::{
@@ -41,12 +40,11 @@ use dshot_bank::service::DshotServiceEvent;
 // The next special-command frame: its lane and its command.
 pub(crate) type FrameCommand = Option<(usize, u16)>;
 
-// What is sent to each lane, and whether it is an ordinary frame. An ordinary frame carries the pending telemetry request.
+// What is sent to each lane.
 #[derive(Clone, Copy)]
 pub(crate) struct FrameSet {
     pub values: MotorValues,
     pub telemetry_lane: Option<usize>,
-    pub ordinary: bool,
 }
 
 // ---- the run of commands
@@ -100,15 +98,6 @@ fn one_lane(motor: usize, command: u16) -> MotorValues
     values
 }
 
-fn request_lane(slot: u16) -> Option<usize>
-    ensures { lane_of result ≡ as_lane (Load.choice slot) }
-{
-    if slot == 0 {
-        return None;
-    }
-    Some(((slot - 1) % 4) as usize)
-}
-
 // A special command needs the telemetry bit on its own lane, so a pending telemetry request waits for the next ordinary frame.
 fn frame_set(state: &[u16; SLOTS], command: FrameCommand) -> FrameSet
     requires { OnLane command }
@@ -118,12 +107,10 @@ fn frame_set(state: &[u16; SLOTS], command: FrameCommand) -> FrameSet
         Some((motor, value)) => FrameSet {
             values: one_lane(motor, value),
             telemetry_lane: Some(motor),
-            ordinary: false,
         },
         None => FrameSet {
             values: values_at(state),
-            telemetry_lane: request_lane(state[REQUEST]),
-            ordinary: true,
+            telemetry_lane: motor_in(state[REQUEST]),
         },
     }
 }
@@ -284,6 +271,8 @@ pub(crate) fn send(
     ensures { Serves (λ (k : Bank) (b : Buffers). Spec.sending 4 now_ms (taken lanes.now) [] [] [] [] b lease_expired k.core k.replies) (record { first = first.entry.now; second = second.old }) (record { first = first.exit.now; second = second.new }) state.old state.new out.new }
 {
     let next = next_command_frame(state);
+    // An ordinary frame set carries the pending telemetry request.
+    let ordinary = next.is_none();
     let next_set = frame_set(state, next);
     let values = next_set.values;
     let lane = next_set.telemetry_lane;
@@ -297,7 +286,7 @@ pub(crate) fn send(
         tell_refused(out, refusing, &orders);
         return;
     }
-    frame_started(state, now_ms, next_set.ordinary);
+    frame_started(state, now_ms, ordinary);
     tell(out, sent_event(lease_expired), &orders, &STARTED_ORDERS);
     out[11..].copy_from_slice(&duties);
 }

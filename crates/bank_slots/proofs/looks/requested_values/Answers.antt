@@ -1,8 +1,10 @@
 -- `bank_slots::looks::requested_values` meets its contract: it is refused, or gives the four values in four slots.
 -- Assumes nothing.
-use Rattle.std.proofs.Common.{◌≡◌, length, sym, ◌∙◌, rules}
+use Rattle.std.proofs.Common.{◌≡◌, ℕ, ◌+◌, length, sym, ◌∙◌, rules}
 use Rattle.bank_slots.proofs.Unfit.{unfit-number, unfit-out}
-use Rattle.bank_slots_spec.proofs.CommandMoves.{values-part}
+use Rattle.bank_slots_spec.specs.Memory.{at}
+use Rattle.bank_slots_spec.specs.Places.{VALUES}
+use Rattle.bank_slots_spec.specs.Load.{four, load}
 use Rattle.bank_slots_spec.proofs.FillLaws.{filled}
 use Rattle.bank_slots_spec.proofs.LookLaws.{values-told}
 use Rattle.bank_slots.proofs.looks.requested_values.Goals as goal
@@ -14,6 +16,7 @@ pub returns-in_err-out : goal.returns-in_err-out
 returns-in_err-out c = record { value = λ b. unfit-number _ _ (search rules) (search rules); out_after = λ b. unfit-out _ _ (search rules) (search rules) }
 
 pub returns : goal.returns
+unfolding load
 returns c =
     let a = c.args in
     let xs = a.bank.now in
@@ -21,4 +24,4 @@ returns c =
     let n : length xs ≡ 97 = search rules in
     let l : length a.out.now ≡ 4 = search rules in
     let all = values-told xs a.out.now n l in
-    record { value = all.0; out_after = λ b. rw e at c.copy_from_slice.ensures.after ∙ sym (values-part xs n) ∙ sym (filled _ a.out.now l) ∙ all.1 b }
+    record { value = all.0; out_after = λ b. rw e at c.values_at.ensures ∙ sym (filled (four (λ (i : ℕ). at xs (VALUES + i))) a.out.now l) ∙ all.1 b }

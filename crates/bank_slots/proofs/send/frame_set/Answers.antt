@@ -11,4 +11,4 @@ unfolding load
 returns-in-None c =
     let a = c.args in
     let e = sym (ap (λ (n : Option (ℕ × ℕ)). frame_set 4 (load a.state.now).core (motor_command_of n)) c.in-None.is) in
-    record { values = c.values_at.ensures ∙ ap (λ (f : FrameSet). f.values) e; lane = c.request_lane.ensures ∙ ap (λ (f : FrameSet). f.telemetry_lane) e; request = ap (λ (f : FrameSet). f.telemetry_request) e }
+    record { values = c.values_at.ensures ∙ ap (λ (f : FrameSet). f.values) e; lane = c.motor_in.ensures ∙ ap (λ (f : FrameSet). f.telemetry_lane) e }

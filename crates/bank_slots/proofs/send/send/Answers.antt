@@ -3,9 +3,10 @@
 use Rattle.std.proofs.Common.{refl, ap, ◌∙◌}
 use borrow.Rule.Slice.PartMut.{put_mid}
 use Rattle.dshot_bank_spec.specs.State.{Buffers}
+use Rattle.bank_slots_spec.specs.Load.{load}
 use Rattle.bank_slots_spec.proofs.SendMoves.{packets-sent, duties-sent, spares-sent, sends-refused, sends-started}
 use Rattle.bank_slots.specs.Frames.{motor_command_of, refused_slots}
-use Rattle.bank_slots.proofs.Sent.{refused-told, started_slots, started-told}
+use Rattle.bank_slots.proofs.Sent.{request-carried, refused-told, started_slots, started-told}
 use Rattle.bank_slots.proofs.send.send.Goals as goal
 
 pub returns-then-refusing-lt-LANES : goal.returns-then-refusing-lt-LANES
@@ -35,7 +36,7 @@ returns c =
     let e = c.encode_lanes-duties in
     let spares = spares-sent a.state.now _ m (n.ensures.result_value, n.ensures.moves) b c.told-first c.told-second time packets marks (rw (c.told-first, c.told-second) e.ensures.fact) in
     let duties = duties-sent a.state.now _ m (n.ensures.result_value, n.ensures.moves) b c.told-first c.told-second time packets (rw (c.told-first, c.told-second) e.ensures.value) in
-    sends-started a.state.now _ m (n.ensures.result_value, n.ensures.moves) a.now_ms a.lease_expired a.lanes.now b spares f.result.ordinary c.lanes_taken-refusing.ensures c.if-refusing-lt-LANES.false
-    f.ensures.request c.frame_started.ensures c.sent_event.ensures duties marks refl
+    sends-started a.state.now _ m (n.ensures.result_value, n.ensures.moves) a.now_ms a.lease_expired a.lanes.now b spares c.is_none-ordinary.result c.lanes_taken-refusing.ensures c.if-refusing-lt-LANES.false
+    (request-carried _ n.result (load n.new.state).core c.is_none-ordinary.ensures) c.frame_started.ensures c.sent_event.ensures duties marks refl
     ((λ j. put_mid 11 4 ((c.tell.ensures ∙ ap (started_slots c.sent_event.result) c.exchanges-orders.ensures) j) (c.copy_from_slice.ensures.after j))
     ∙ started-told c.marks_at-marks.result c.sent_event.result e.result)
