@@ -1,22 +1,20 @@
-// Reads a whole input.
+// Reads a list from an input.
 
-ghost use Rattle.std.specs.Io.{ReadsAtMost};
+ghost use Rattle.std.specs.Prelude.{◌≡◌, take, IfOk, IfSome};
 
+use std::alloc::Allocator;
 use std::io;
 use std::io::Read;
 
-// Reads until the buffer is full or the input ends, and answers how many bytes at its start were read. What a reader gives is not promised: no contract
-// can say it. Promised is that the answer counts bytes at the buffer's start.
-pub fn read_full<R: Read>(reader: &mut R, buffer: &mut [u8]) -> io::Result<usize>
-    ensures { ReadsAtMost result buffer.new }
+// Reads the first `most` bytes of an input, or all if it has no more.
+pub fn read_first<R: Read, A: Allocator>(
+    alloc: A,
+    input: &mut R,
+    most: u64,
+) -> io::Result<Vec<u8, A>>
+    ensures { IfOk result (λ text. IfSome (R.remaining input.old) (λ bytes. text.items ≡ take most bytes)) }
 {
-    let mut done = 0;
-    while done < buffer.len() {
-        let more = reader.read(&mut buffer[done..])?;
-        if more == 0 {
-            break;
-        }
-        done += more;
-    }
-    Ok(done)
+    let mut text = Vec::new(alloc);
+    input.take(most).read_to_end(&mut text)?;
+    Ok(text)
 }

@@ -22,13 +22,13 @@ mod services;
 mod sets;
 mod slots;
 
-use case_text::input::read_full;
+use case_text::input::read_first;
 use dshot::DshotTiming;
 use dshot_bank::DshotBank;
 use std::io;
 use std::io::{BufWriter, Write};
 
-const MOST_BYTES: usize = 65536;
+const MOST_BYTES: u64 = 65536;
 
 // What is printed goes through a buffer of so many bytes, so that a list takes few writes.
 const MOST_PRINTED: usize = 65536;
@@ -53,11 +53,10 @@ fn run_list(out: &mut impl Write, text: &[u8]) -> io::Result<()> {
 }
 
 fn main(rt: HostRuntime) -> io::Result<()> {
-    let mut text = [0; MOST_BYTES];
-    let n = read_full(&mut rt.stdin(), &mut text)?;
-    if n == text.len() {
+    let text = read_first(rt.alloc(), &mut rt.stdin(), MOST_BYTES)?;
+    if text.len() as u64 == MOST_BYTES {
         return rt.println("list too long");
     }
     let mut out = BufWriter::with_capacity(rt.alloc(), MOST_PRINTED, rt.stdout())?;
-    run_list(&mut out, &text[..n])
+    run_list(&mut out, &text)
 }

@@ -14,11 +14,11 @@ mod report;
 mod sequences;
 
 use crate::report::Report;
-use case_text::input::read_full;
+use case_text::input::read_first;
 use std::io;
 
 // Room for a list, and for one byte more. If a list fills it, it may be cut off.
-const MOST_BYTES: usize = 131072;
+const MOST_BYTES: u64 = 131072;
 
 // Replays the record of a line, if it has one. Answers whether nothing differs, if the record can be read.
 fn replay_line(line: &[u8], report: &mut Report) -> Option<bool> {
@@ -44,10 +44,9 @@ fn replay_list(rt: &impl Print, text: &[u8]) -> io::Result<()> {
 }
 
 fn main(rt: HostRuntime) -> io::Result<()> {
-    let mut text = [0; MOST_BYTES];
-    let n = read_full(&mut rt.stdin(), &mut text)?;
-    if n == text.len() {
+    let text = read_first(rt.alloc(), &mut rt.stdin(), MOST_BYTES)?;
+    if text.len() as u64 == MOST_BYTES {
         return rt.println("list too long");
     }
-    replay_list(&rt, &text[..n])
+    replay_list(&rt, &text)
 }
