@@ -70,6 +70,19 @@ pub enum ChecksumKind {
     Inverted,
 }
 
+impl ChecksumKind {
+    // The kind that a bank sends: inverted if it is bidirectional.
+    pub fn sent(bidirectional: bool) -> Self
+        ensures { kind_of result ≡ (if bidirectional then inverted else plain) }
+    {
+        if bidirectional {
+            ChecksumKind::Inverted
+        } else {
+            ChecksumKind::Plain
+        }
+    }
+}
+
 // The exclusive or of a payload's three nibbles.
 fn checksum_of(payload: u16) -> u16
     ensures { (result ≡ checksum payload) × (result < 16) }

@@ -120,7 +120,8 @@ pub struct SentTaken {
     pub bank: DshotBank,
 }
 
-fn any_above(values: MotorValues, most: u16) -> bool
+// Whether one of the values is above this.
+pub fn any_above(values: MotorValues, most: u16) -> bool
     ensures { result ≡ list_any (nat_lt most) values }
 {
     values.iter().any(|value| *value > most)

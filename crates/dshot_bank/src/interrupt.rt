@@ -20,7 +20,7 @@ use crate::orders::{OrderKind, Orders};
 use crate::{Core, DshotBank, DshotMotor, DshotStats, Frame};
 use dshot_reply::refusals::Refusal;
 
-const ALL_MOTORS_COMPLETE: u32 = 0b1111;
+pub const ALL_MOTORS_COMPLETE: u32 = 0b1111;
 
 #[derive(Clone, Copy, Debug, PartialEq, Eq)]
 pub enum DshotInterruptEvent {
@@ -44,6 +44,15 @@ impl From<InterruptError> for Refusal {
             InterruptError::NoSuchMotor => Refusal::NoSuchMotor,
         }
     }
+}
+
+// What the hardware answers at a lane's interrupt: the status of its stream, whether every lane turned to receive, and whether every lane turned back.
+#[derive(Clone, Copy, Debug, PartialEq, Eq)]
+pub struct DmaAnswers {
+    pub transfer_complete: bool,
+    pub dma_error: bool,
+    pub turned: bool,
+    pub turned_back: bool,
 }
 
 // The answer of `on_dma_interrupt`, with the orders and the bank after it.

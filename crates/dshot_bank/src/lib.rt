@@ -112,7 +112,8 @@ impl DshotMotor {
         }
     }
 
-    pub(crate) fn completion_bit(self) -> u32
+    // The bit of a motor in a completion mask.
+    pub fn completion_bit(self) -> u32
         ensures { result ≡ completion_bit (motor_of self) }
     {
         1 << self.index()

@@ -106,7 +106,7 @@ fn next_of_run(run: Option<MotorRun>) -> NextFrame
 }
 
 // The values with one lane's command.
-fn one_lane(motor: DshotMotor, command: u16) -> MotorValues
+pub fn one_lane(motor: DshotMotor, command: u16) -> MotorValues
     ensures { result ≡ slice_set (replicate 4 0) (motor_of motor) command }
 {
     let mut values = [0; LANES];

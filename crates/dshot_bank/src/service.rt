@@ -142,7 +142,8 @@ impl Skipped {
     }
 }
 
-fn sent_event(started: bool, lease_expired: bool) -> DshotServiceEvent
+// The event of a service that sends, or that a lane refused.
+pub fn sent_event(started: bool, lease_expired: bool) -> DshotServiceEvent
     ensures { service_event_of result ≡ sent_event started lease_expired }
 {
     if !started {
