@@ -4,6 +4,7 @@ use Rattle.std.proofs.Common.{◌≡◌, ℕ, eqb, List, [], ◌∷◌, map, fal
 use Rattle.dshot_reply_spec.proofs.Inverse.{injective}
 use Rattle.dshot_reply_spec.specs.Answer.{pick}
 use Rattle.dshot_reply.proofs.Injective.{answer-injective, status-injective}
+use Rattle.dshot_reply.specs.declared.refusals.WrongLength.{WrongLength}
 use Rattle.dshot_spec.specs.Packet.{Kind, plain, inverted}
 use Rattle.dshot_spec.specs.Packet as Packet
 use Rattle.dshot_spec.specs.Timing.{Timing}
@@ -17,8 +18,6 @@ use Rattle.dshot.specs.declared.ChecksumKind.TheVariants.{Plain, Inverted}
 use Rattle.dshot.specs.declared.DshotTimingError.{DshotTimingError}
 use Rattle.dshot.specs.declared.DshotTimingError.TheVariants.{ZeroTimerClock, ZeroBitrate, PeriodTooShort, PeriodTooLong}
 use Rattle.dshot.specs.declared.DshotTiming.{DshotTiming}
-use Rattle.dshot.specs.declared.EncodeError.{EncodeError}
-use Rattle.dshot.specs.declared.EncodeError.TheVariants as Encode
 use Rattle.dshot.specs.declared.DshotCommandSequence.{DshotCommandSequence}
 use Rattle.dshot.specs.declared.read.FrameReadError.{FrameReadError}
 use Rattle.dshot.specs.declared.read.FrameReadError.TheVariants as Error
@@ -107,23 +106,23 @@ timing_answer-injective = answer-injective timing_of dshot_timing_of timing_erro
 
 -- ---- duties
 
-encode_error_of : ℕ → EncodeError
-encode_error_of n = Encode.WrongLength
+encode_error_of : ℕ → WrongLength
+encode_error_of n = record {}
 
-encode-error-back : (e : EncodeError) → encode_error_of (encode_error_number e) ≡ e
+encode-error-back : (e : WrongLength) → encode_error_of (encode_error_number e) ≡ e
 unfolding encode_error_of
-encode-error-back Encode.WrongLength = refl
+encode-error-back e = refl
 
-encode-error-positive : (e : EncodeError) → eqb (encode_error_number e) 0 ≡ false
-encode-error-positive Encode.WrongLength = refl
+encode-error-positive : (e : WrongLength) → eqb (encode_error_number e) 0 ≡ false
+encode-error-positive e = refl
 
-pub encode_error_number-injective : (e f : EncodeError) → encode_error_number e ≡ encode_error_number f → e ≡ f
+pub encode_error_number-injective : (e f : WrongLength) → encode_error_number e ≡ encode_error_number f → e ≡ f
 encode_error_number-injective = injective encode_error_number encode_error_of encode-error-back
 
-pub encoded_number-injective : (e f : Result Unit EncodeError) → encoded_number e ≡ encoded_number f → e ≡ f
+pub encoded_number-injective : (e f : Result Unit WrongLength) → encoded_number e ≡ encoded_number f → e ≡ f
 encoded_number-injective = status-injective encode_error_number encode_error_of encode-error-positive encode-error-back
 
-pub first_answer-injective : (s t : Result ℕ EncodeError) → first_answer s ≡ first_answer t → s ≡ t
+pub first_answer-injective : (s t : Result ℕ WrongLength) → first_answer s ≡ first_answer t → s ≡ t
 first_answer-injective = answer-injective (λ d. d) (λ d. d) encode_error_number encode_error_of (λ d. refl) encode-error-back
 
 -- ---- commands

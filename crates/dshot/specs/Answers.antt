@@ -5,6 +5,7 @@ use Rattle.std.specs.Prelude.{ℕ, List, map, Option, Some, None, Result}
 use Rattle.dshot_reply_spec.specs.Answer.{Answer}
 use Rattle.dshot_reply_spec.specs.Refusals.{zero_timer_clock, zero_bitrate, period_too_short, period_too_long, value_out_of_range, wrong_length, wrong_duty, wrong_packet_checksum}
 use Rattle.dshot_reply.specs.Answers.{answer, status}
+use Rattle.dshot_reply.specs.declared.refusals.WrongLength.{WrongLength}
 use Rattle.dshot_spec.specs.Packet.{Kind, plain, inverted}
 use Rattle.dshot_spec.specs.Packet as Packet
 use Rattle.dshot_spec.specs.Timing.{Timing}
@@ -17,8 +18,6 @@ use Rattle.dshot.specs.declared.ChecksumKind.TheVariants.{Plain, Inverted}
 use Rattle.dshot.specs.declared.DshotTimingError.{DshotTimingError}
 use Rattle.dshot.specs.declared.DshotTimingError.TheVariants.{ZeroTimerClock, ZeroBitrate, PeriodTooShort, PeriodTooLong}
 use Rattle.dshot.specs.declared.DshotTiming.{DshotTiming}
-use Rattle.dshot.specs.declared.EncodeError.{EncodeError}
-use Rattle.dshot.specs.declared.EncodeError.TheVariants as EncodeError·
 use Rattle.dshot.specs.declared.DshotCommandSequence.{DshotCommandSequence}
 use Rattle.dshot.specs.declared.read.FrameReadError.{FrameReadError}
 use Rattle.dshot.specs.declared.read.FrameReadError.TheVariants as FrameReadError·
@@ -67,16 +66,16 @@ timing_answer = answer timing_of timing_error_number
 
 -- ---- duties
 
--- the number of an `EncodeError`
-abbrev pub encode_error_number : EncodeError → ℕ
-encode_error_number EncodeError·.WrongLength = wrong_length
+-- the number of a `WrongLength`
+abbrev pub encode_error_number : WrongLength → ℕ
+encode_error_number e = wrong_length
 
 -- the number of a refusal; 0 if the buffer was filled
-abbrev pub encoded_number : Result Unit EncodeError → ℕ
+abbrev pub encoded_number : Result Unit WrongLength → ℕ
 encoded_number = status encode_error_number
 
 -- the first duty of a sequence
-abbrev pub first_answer : Result ℕ EncodeError → Answer ℕ
+abbrev pub first_answer : Result ℕ WrongLength → Answer ℕ
 first_answer = answer (λ d. d) encode_error_number
 
 -- ---- commands

@@ -7,7 +7,7 @@
 // The source's requirements: OUTPUT-001, OUTPUT-002, OUTPUT-004, OUTPUT-005, OUTPUT-006, OUTPUT-007, OUTPUT-008, OUTPUT-009. Safety-critical.
 #![tactic(auto)]
 
-ghost use Rattle.std.specs.Prelude.{◌≡◌, ◌+◌, ◌/◌, ◌^◌, ◌<◌, ◌≤◌, length, slice_index};
+ghost use Rattle.std.specs.Prelude.{◌≡◌, ◌+◌, ◌/◌, ◌^◌, ◌<◌, ◌≤◌, length, slice_index, if◌then◌else◌};
 ghost use Rattle.dshot_reply_spec.specs.Answer.{refusal_number, filled};
 ghost use Rattle.dshot_reply_spec.specs.Nearest.{nearest};
 ghost use Rattle.dshot_spec.specs.Packet.{plain, inverted, packet_word, try_packet, checksum, asks, motor_packets};
@@ -18,11 +18,11 @@ ghost use Rattle.dshot_spec.specs.Throttle.{throttle_value, throttle_values};
 ghost use Rattle.dshot_spec.specs.Command.{spin_direction, next_value};
 ghost use Rattle.dshot_spec.specs.Lease.{lease_expired};
 ghost use Rattle.dshot_reply.specs.Refusals.{refusal_number as number_of};
-ghost use Rattle.dshot.specs.Answers.{frame_error_number, packet_answer, kind_of, words, lane_of, timing_error_number, timing_answer, timing_of, encode_error_number, encoded_number, first_answer, run_of, next_of};
+ghost use Rattle.dshot.specs.Answers.{frame_error_number, packet_answer, kind_of, words, lane_of, timing_error_number, timing_answer, timing_of, encoded_number, first_answer, run_of, next_of};
 ghost use Rattle.dshot.specs.Steps.{slot};
 
 use dshot_reply::REPLY_SAMPLES_PER_BIT;
-use dshot_reply::refusals::Refusal;
+use dshot_reply::refusals::{Refusal, WrongLength};
 
 // The readers, which are not in the source.
 pub mod read;
@@ -255,22 +255,6 @@ fn div_round(numerator: u64, denominator: u64) -> u64
     (numerator + denominator / 2) / denominator
 }
 
-// Why a buffer is not filled.
-#[derive(Clone, Copy, Debug, PartialEq, Eq)]
-pub enum EncodeError {
-    WrongLength,
-}
-
-impl From<EncodeError> for Refusal {
-    ghost from_gives = { λ e r. number_of r ≡ encode_error_number e };
-
-    fn from(error: EncodeError) -> Refusal {
-        match error {
-            EncodeError::WrongLength => Refusal::WrongLength,
-        }
-    }
-}
-
 fn bit_is_set(packet: DshotPacket, bit_number: usize) -> bool
     requires { bit_number < 16 }
     ensures { result ≡ is_set packet.0 bit_number }
@@ -309,12 +293,12 @@ pub fn encode_packet(
     packet: DshotPacket,
     max_duty: u16,
     output: &mut [u16],
-) -> Result<(), EncodeError>
+) -> Result<(), WrongLength>
     ensures result_value { encoded_number result ≡ refusal_number (encoded_packet output.old packet.0 max_duty) }
     ensures output_after { output.new ≡ filled (λ l. l) output.old (encoded_packet output.old packet.0 max_duty) }
 {
     if output.len() != FRAME_SLOTS {
-        return Err(EncodeError::WrongLength);
+        return Err(WrongLength);
     }
     let duty_0 = (u32::from(max_duty) * 3 / 8) as u16;
     let duty_1 = (u32::from(max_duty) * 3 / 4) as u16;
@@ -331,12 +315,12 @@ pub fn encode_compare_sequence(
     packet: DshotPacket,
     timing: DshotTiming,
     dma_output: &mut [u16],
-) -> Result<u16, EncodeError>
+) -> Result<u16, WrongLength>
     ensures result_value { first_answer result ≡ first_duty (encoded_sequence dma_output.old packet.0 (timing_of timing)) }
     ensures dma_output_after { dma_output.new ≡ filled (λ s. s.slots) dma_output.old (encoded_sequence dma_output.old packet.0 (timing_of timing)) }
 {
     if dma_output.len() != COMPARE_DMA_SLOTS {
-        return Err(EncodeError::WrongLength);
+        return Err(WrongLength);
     }
     // Both duties are read before the loop. The compiler passes the struct as one number, and in the loop it would shift each duty out of it again.
     let zero = timing.duty_for_bit(false);

@@ -25,9 +25,10 @@ use crate::orders::Orders;
 use crate::replies::LaneFlags;
 use crate::{Core, DshotMotor, DshotStats, LANES, MotorRun, Requests, Slots};
 use dshot::{
-    COMPARE_DMA_SLOTS, ChecksumKind, DshotPacket, DshotTiming, EncodeError, MotorPackets,
-    MotorValues, encode_compare_sequence, packets_of_kind,
+    COMPARE_DMA_SLOTS, ChecksumKind, DshotPacket, DshotTiming, MotorPackets, MotorValues,
+    encode_compare_sequence, packets_of_kind,
 };
+use dshot_reply::refusals::WrongLength;
 use std::array;
 
 // The next special-command frame, and the run that is left.
@@ -220,12 +221,12 @@ pub fn encode_spares(
     in_second: LaneFlags,
     packets: MotorPackets,
     timing: DshotTiming,
-) -> Result<MotorValues, EncodeError>
+) -> Result<MotorValues, WrongLength>
     ensures value { answer (λ d. d) encode_error_number result ≡ (if slots_fit 4 (length first.old) (length second.old) then given (first_duties 4 (timing_of timing) (words packets)) else refused wrong_length) }
     ensures fact { ◌≡◌ {A = Buffers} (record { first = first.exit.now; second = second.new }) (if slots_fit 4 (length first.entry.now) (length second.old) then encode_lanes 4 (timing_of timing) in_second (words packets) (record { first = first.entry.now; second = second.old }) else record { first = first.entry.now; second = second.old }) }
 {
-    let first = first.as_mut_array().ok_or(EncodeError::WrongLength)?;
-    let second = second.as_mut_array().ok_or(EncodeError::WrongLength)?;
+    let first = first.as_mut_array().ok_or(WrongLength)?;
+    let second = second.as_mut_array().ok_or(WrongLength)?;
     Ok(encode_lanes(first, second, in_second, packets, timing))
 }
 

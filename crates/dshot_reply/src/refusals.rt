@@ -2,6 +2,7 @@
 // dumps.
 
 ghost use Rattle.std.specs.Prelude.{◌≡◌};
+ghost use Rattle.dshot_reply_spec.specs.Refusals.{wrong_length};
 ghost use Rattle.dshot_reply.specs.Answers.{error_number};
 ghost use Rattle.dshot_reply.specs.Refusals.{refusal_number, status_number};
 
@@ -101,5 +102,17 @@ impl From<DshotReplyError> for Refusal {
             DshotReplyError::Checksum => Refusal::WrongChecksum,
             DshotReplyError::ZeroPeriod => Refusal::ZeroPeriod,
         }
+    }
+}
+
+// A slice that was lent has the wrong length. It is the only error of the calls that answer with it.
+#[derive(Clone, Copy, Debug, PartialEq, Eq)]
+pub struct WrongLength;
+
+impl From<WrongLength> for Refusal {
+    ghost from_gives = { λ e r. refusal_number r ≡ wrong_length };
+
+    fn from(_error: WrongLength) -> Refusal {
+        Refusal::WrongLength
     }
 }

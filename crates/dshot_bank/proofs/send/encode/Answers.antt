@@ -6,12 +6,12 @@ use Rattle.std.specs.Result.{IsOk}
 use Rattle.dshot_reply_spec.specs.Answer.{given, filled}
 use Rattle.dshot_spec.specs.Timing.{Timing}
 use Rattle.dshot_spec.specs.Sequence.{Sequence, sequence_of, encoded_sequence, first_duty}
-use Rattle.dshot.specs.declared.EncodeError.{EncodeError}
+use Rattle.dshot_reply.specs.declared.refusals.WrongLength.{WrongLength}
 use Rattle.dshot.specs.Answers.{timing_of, first_answer}
 use Rattle.dshot_bank.proofs.send.encode.Goals as goal
 
 -- what is given is an `Ok`
-ok-given : (r : Result ℕ EncodeError) {n : ℕ} → first_answer r ≡ given n → r ≡ Ok n
+ok-given : (r : Result ℕ WrongLength) {n : ℕ} → first_answer r ≡ given n → r ≡ Ok n
 ok-given (Ok d) e = ap Ok (cc)
 ok-given (Err x) e = cc
 
@@ -24,7 +24,7 @@ pub unwrap-requires : goal.unwrap-requires
 unwrap-requires c =
     let a = c.args in
     let e = c.encode_compare_sequence.ensures in
-    subst (λ (r : Result ℕ EncodeError). IsOk r)
+    subst (λ (r : Result ℕ WrongLength). IsOk r)
     (sym (ok-given c.encode_compare_sequence.result (e.result_value ∙ ap first_duty (encoded a.part.now a.packet.0 (timing_of a.timing) c.requires)))) refl
 
 pub returns : goal.returns
