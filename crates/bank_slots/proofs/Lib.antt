@@ -1,6 +1,7 @@
 pub mod Any
 pub mod Copied
 pub mod Lanes
+pub mod Motors
 pub mod NewBank
 pub mod Parts
 pub mod Sent

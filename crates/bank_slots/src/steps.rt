@@ -3,17 +3,16 @@
 //
 // The steps on a bank's state that several calls share: a stop, a run put or cleared, and a latched fault.
 
-ghost use Rattle.std.specs.Prelude.{◌≡◌, ◌+◌, ◌<◌, length, if◌then◌else◌};
+ghost use Rattle.std.specs.Prelude.{◌≡◌, ◌+◌, ◌<◌, length};
 ghost use Rattle.std.proofs.Math.Option.{none};
 ghost use Rattle.dshot.specs.Answers.{run_of};
 ghost use Rattle.dshot_bank_spec.specs.Commands.{command_stop};
 ghost use Rattle.dshot_bank_spec.specs.With.{with_command_sequence};
 ghost use Rattle.dshot_bank_spec.specs.Send.{latch_fault};
 ghost use Rattle.bank_slots_spec.specs.Memory.{at};
-ghost use Rattle.bank_slots_spec.specs.Places.{slots};
 ghost use Rattle.bank_slots_spec.specs.Load.{load, run_from};
 ghost use Rattle.bank_slots_spec.specs.Moves.{Moves, on_core};
-ghost use Rattle.bank_slots_spec.specs.Parts.{bumped, fault_counted, flags_latched, requests_cleared, queued};
+ghost use Rattle.bank_slots_spec.specs.Parts.{fault_counted, flags_latched, requests_cleared, queued};
 
 use crate::memory::bump;
 use crate::{
@@ -73,21 +72,15 @@ pub(crate) fn stop(state: &mut [u16; SLOTS])
 
 // ---- a fault
 
-pub(crate) fn bump_if(state: &mut [u16; SLOTS], counted: bool, k: usize)
-    requires { k + 1 < slots }
-    ensures { state.new ≡ (if counted then bumped k state.old else state.old) }
-{
-    if counted {
-        bump(state, k);
-    }
-}
-
 fn count_fault(state: &mut [u16; SLOTS], spurious: bool)
     ensures { Moves (on_core (fault_counted spurious)) state.old state.new }
 {
-    let first = state[FAULTED] == 0;
-    bump_if(state, first, DMA_FAULTS);
-    bump_if(state, spurious, SPURIOUS);
+    if state[FAULTED] == 0 {
+        bump(state, DMA_FAULTS);
+    }
+    if spurious {
+        bump(state, SPURIOUS);
+    }
 }
 
 fn latch_flags(state: &mut [u16; SLOTS])

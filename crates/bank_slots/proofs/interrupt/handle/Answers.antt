@@ -2,49 +2,45 @@
 -- Assumes nothing.
 use Rattle.std.proofs.Common.{ℕ, not, sym, ap, ◌∙◌}
 use lib.Bits.{bit_and}
+use Rattle.dshot_bank.specs.States.{motor_of}
 use Rattle.bank_slots_spec.proofs.InterruptMoves.{on-faulted, on-idle, on-again, on-error, on-incomplete, on-complete}
 use Rattle.bank_slots.proofs.interrupt.handle.Goals as goal
+use Rattle.bank_slots.proofs.interrupt.handle.Goals.{then-not-flag-via-then-not-flag, then-not-flag-via-else-not-flag+then-word_at-completion_bit-ne0}
 
 pub returns-then-flag : goal.returns-then-flag
 returns-then-flag c =
     let a = c.args in
-    on-faulted a.lane a.transfer_complete a.dma_error a.turned a.turned_back (sym c.flag.ensures ∙ c.if-flag.true) c.tell_paused.ensures
+    on-faulted (motor_of a.motor) a.answers.transfer_complete a.answers.dma_error a.answers.turned a.answers.turned_back (sym c.flag.ensures ∙ c.if-flag.true) c.tell_paused.ensures
 
 pub returns-then-not-flag : goal.returns-then-not-flag
 returns-then-not-flag c =
     let a = c.args in
     let faults = sym c.flag.ensures ∙ c.if-flag.false in
-    let idles = ap not (sym c.flag-2.ensures) ∙ c.if-not-flag.true-raw in
-    on-idle a.lane a.transfer_complete a.dma_error a.turned a.turned_back faults idles (c.latched.ensures)
+    elim c.then-not-flag.branch [
+      | then-not-flag-via-then-not-flag w ↦
+          on-idle (motor_of a.motor) a.answers.transfer_complete a.answers.dma_error a.answers.turned a.answers.turned_back faults (ap not (sym c.flag-2.ensures) ∙ w.if-not-flag.true-raw) c.latched.ensures
+      | then-not-flag-via-else-not-flag+then-word_at-completion_bit-ne0 w ↦
+          on-again (motor_of a.motor) a.answers.transfer_complete a.answers.dma_error a.answers.turned a.answers.turned_back faults (ap not (sym c.flag-2.ensures) ∙ w.if-not-flag.false-raw) w.completion_bit.result w.completion_bit.ensures
+          (λ e. w.if-word_at-completion_bit-ne0.true (ap (λ (m : ℕ). bit_and m w.completion_bit.result) w.word_at.ensures ∙ e)) c.latched.ensures
+    ]
 
-pub returns-then-word_at-completion_bit-ne0 : goal.returns-then-word_at-completion_bit-ne0
-returns-then-word_at-completion_bit-ne0 c =
+pub returns-then-answers : goal.returns-then-answers
+returns-then-answers c =
     let a = c.args in
     let faults = sym c.flag.ensures ∙ c.if-flag.false in
     let idles = ap not (sym c.flag-2.ensures) ∙ c.if-not-flag.false-raw in
     let bit = c.completion_bit in
-    let mask = c.word_at.ensures in
-    on-again a.lane a.transfer_complete a.dma_error a.turned a.turned_back faults idles bit.result bit.ensures (λ e. c.if-word_at-completion_bit-ne0.true (ap (λ (m : ℕ). bit_and m bit.result) mask ∙ e)) (c.latched-then-word_at-completion_bit-ne0.ensures)
+    let again = ap (λ (m : ℕ). bit_and m bit.result) (sym c.word_at.ensures) ∙ c.if-word_at-completion_bit-ne0.false in
+    on-error (motor_of a.motor) a.answers.transfer_complete a.answers.dma_error a.answers.turned a.answers.turned_back faults idles bit.result bit.ensures again c.if-answers.true c.latched-then-answers.ensures
 
-pub returns-then-dma_error : goal.returns-then-dma_error
-returns-then-dma_error c =
+pub returns-then-not-answers : goal.returns-then-not-answers
+returns-then-not-answers c =
     let a = c.args in
     let faults = sym c.flag.ensures ∙ c.if-flag.false in
     let idles = ap not (sym c.flag-2.ensures) ∙ c.if-not-flag.false-raw in
     let bit = c.completion_bit in
-    let mask = c.word_at.ensures in
-    let again = ap (λ (m : ℕ). bit_and m bit.result) (sym mask) ∙ c.if-word_at-completion_bit-ne0.false in
-    on-error a.lane a.transfer_complete a.dma_error a.turned a.turned_back faults idles bit.result bit.ensures again c.if-dma_error.true (c.latched-then-dma_error.ensures)
-
-pub returns-then-not-transfer_complete : goal.returns-then-not-transfer_complete
-returns-then-not-transfer_complete c =
-    let a = c.args in
-    let faults = sym c.flag.ensures ∙ c.if-flag.false in
-    let idles = ap not (sym c.flag-2.ensures) ∙ c.if-not-flag.false-raw in
-    let bit = c.completion_bit in
-    let mask = c.word_at.ensures in
-    let again = ap (λ (m : ℕ). bit_and m bit.result) (sym mask) ∙ c.if-word_at-completion_bit-ne0.false in
-    on-incomplete a.lane a.transfer_complete a.dma_error a.turned a.turned_back faults idles bit.result bit.ensures again c.if-dma_error.false c.if-not-transfer_complete.true-raw (c.latched-then-not-transfer_complete.ensures)
+    let again = ap (λ (m : ℕ). bit_and m bit.result) (sym c.word_at.ensures) ∙ c.if-word_at-completion_bit-ne0.false in
+    on-incomplete (motor_of a.motor) a.answers.transfer_complete a.answers.dma_error a.answers.turned a.answers.turned_back faults idles bit.result bit.ensures again c.if-answers.false c.if-not-answers.true c.latched-then-not-answers.ensures
 
 pub returns : goal.returns
 returns c =
@@ -52,6 +48,5 @@ returns c =
     let faults = sym c.flag.ensures ∙ c.if-flag.false in
     let idles = ap not (sym c.flag-2.ensures) ∙ c.if-not-flag.false-raw in
     let bit = c.completion_bit in
-    let mask = c.word_at.ensures in
-    let again = ap (λ (m : ℕ). bit_and m bit.result) (sym mask) ∙ c.if-word_at-completion_bit-ne0.false in
-    on-complete a.lane a.transfer_complete a.dma_error a.turned a.turned_back faults idles bit.result bit.ensures again c.if-dma_error.false c.if-not-transfer_complete.false-raw c.lane_done.ensures c.after_lane.ensures
+    let again = ap (λ (m : ℕ). bit_and m bit.result) (sym c.word_at.ensures) ∙ c.if-word_at-completion_bit-ne0.false in
+    on-complete (motor_of a.motor) a.answers.transfer_complete a.answers.dma_error a.answers.turned a.answers.turned_back faults idles bit.result bit.ensures again c.if-answers.false c.if-not-answers.false c.lane_done.ensures c.after_lane.ensures
