@@ -1,13 +1,13 @@
 // Only for bench/: the cycles of a bank in a loop of the library's own. So the benchmark measures the bank, and not its calls from C.
 #![tactic(auto)]
 
-ghost use Rattle.std.specs.Prelude.{◌≡◌, ◌*◌, ◌≤◌, true, false, not, length, replicate, ◌==◌};
+ghost use Rattle.std.specs.Prelude.{◌≡◌, ◌*◌, ◌/◌, true, false, not, length, replicate, ◌==◌};
 ghost use Rattle.dshot_reply_spec.specs.Answer.{refusal_number, filled};
 ghost use Rattle.dshot_spec.specs.Tabulate.{tabulate};
 ghost use Rattle.dshot_bank_spec.specs.State.{Buffers};
 ghost use Rattle.dshot_bank_spec.specs.Calls.{command_throttles_call, service_call, on_dma_interrupt_call};
 ghost use Rattle.dshot_bank.specs.States.{stored_answer, bank_of};
-ghost use Rattle.dshot_bank_bench.specs.Cycles.{add_all, numbers_in, after, past, speed, count_at, asked, first_of, second_of, counts_of};
+ghost use Rattle.dshot_bank_bench.specs.Cycles.{add_all, numbers_in, after, past, speed, count_at, asked, fit, first_of, second_of, counts_of};
 ghost use Rattle.dshot_bank_bench.specs.Runs.{run_of};
 ghost use Rattle.dshot_bank_bench.specs.Cycles as Spec;
 
@@ -15,8 +15,20 @@ use dshot::{DshotTiming, MotorValues};
 use dshot_bank::orders::Orders;
 use dshot_bank::{DshotBank, LANES, SAMPLES, SLOTS, StoredReply};
 use dshot_reply::refusals::Refusal;
+use std::array;
 
 const LEASE_MS: u32 = 10;
+
+// The numbers that are given of a bank.
+const COUNTS: usize = 24;
+
+// What stays the same over all cycles. Every capture is present, or none is.
+#[derive(Clone, Copy)]
+struct Setup {
+    present: bool,
+    mask: u16,
+    interrupts: usize,
+}
 
 // A bank, and the sum of its orders so far.
 #[derive(Clone, Copy)]
@@ -81,23 +93,22 @@ impl Run {
         }
     }
 
-    // Sends a frame set. All buffers are taken. Every capture is present, or none is.
+    // Sends a frame set. All buffers are taken.
     fn serve(
         self,
         now_ms: u64,
-        present: bool,
-        mask: u16,
+        setup: Setup,
         captures: &[u16],
         first: &mut [u16],
         second: &mut [u16],
     ) -> Self
-        ensures { ◌≡◌ {A = Spec.Run} (run_of result (record { first = first.exit.now; second = second.new })) (after (run_of self (record { first = first.entry.now; second = second.old })) (service_call now_ms (replicate 4 true) (replicate 4 present) (replicate 4 mask) captures.now)) }
+        ensures { ◌≡◌ {A = Spec.Run} (run_of result (record { first = first.exit.now; second = second.new })) (after (run_of self (record { first = first.entry.now; second = second.old })) (service_call now_ms (replicate 4 true) (replicate 4 setup.present) (replicate 4 setup.mask) captures.now)) }
     {
         let served = self.bank.service(
             now_ms,
             [true; LANES],
-            [present; LANES],
-            [mask; LANES],
+            [setup.present; LANES],
+            [setup.mask; LANES],
             first,
             second,
             captures,
@@ -112,18 +123,16 @@ impl Run {
         self,
         now_ms: u64,
         throttles: MotorValues,
-        present: bool,
-        mask: u16,
-        count: usize,
+        setup: Setup,
         captures: &[u16],
         first: &mut [u16],
         second: &mut [u16],
     ) -> Self
-        ensures { ◌≡◌ {A = Spec.Run} (run_of result (record { first = first.exit.now; second = second.new })) (Spec.cycle throttles present mask captures.now count now_ms (run_of self (record { first = first.entry.now; second = second.old }))) }
+        ensures { ◌≡◌ {A = Spec.Run} (run_of result (record { first = first.exit.now; second = second.new })) (Spec.cycle throttles setup.present setup.mask captures.now setup.interrupts now_ms (run_of self (record { first = first.entry.now; second = second.old }))) }
     {
         self.throttle(throttles, now_ms)
-            .serve(now_ms, present, mask, captures, first, second)
-            .interrupts(count)
+            .serve(now_ms, setup, captures, first, second)
+            .interrupts(setup.interrupts)
     }
 }
 
@@ -131,38 +140,20 @@ impl Run {
 #[tactic(auto, using(crate::proofs::CycleLaws::cycles_more), unfolding(crate::specs::Cycles::cycles))]
 fn cycles_from(
     start: Run,
-    cycles: usize,
-    present: bool,
-    mask: u16,
-    interrupts: usize,
+    setup: Setup,
     throttles: &[u16],
     captures: &[u16],
     first: &mut [u16],
     second: &mut [u16],
 ) -> Run
-    requires { (length throttles.now ≡ 4 * cycles) × (640 * cycles ≤ length captures.now) }
-    ensures { ◌≡◌ {A = Spec.Run} (run_of result (record { first = first.exit.now; second = second.new })) (Spec.cycles present mask interrupts throttles.now captures.now (run_of start (record { first = first.entry.now; second = second.old })) cycles) }
+    requires { length throttles.now ≡ 4 * (length captures.now / 640) }
+    ensures { ◌≡◌ {A = Spec.Run} (run_of result (record { first = first.exit.now; second = second.new })) (Spec.cycles setup.present setup.mask setup.interrupts throttles.now captures.now (run_of start (record { first = first.entry.now; second = second.old })) (length captures.now / 640)) }
 {
     let mut run = start;
-    for n in 0..cycles {
-        let t = 4 * n;
-        let four = [
-            throttles[t],
-            throttles[t + 1],
-            throttles[t + 2],
-            throttles[t + 3],
-        ];
-        let from = SAMPLES * n;
-        run = run.cycle(
-            n as u64,
-            four,
-            present,
-            mask,
-            interrupts,
-            &captures[from..from + SAMPLES],
-            first,
-            second,
-        );
+    let (fours, _) = throttles.as_chunks::<LANES>();
+    let (windows, _) = captures.as_chunks::<SAMPLES>();
+    for (n, four) in fours.iter().enumerate() {
+        run = run.cycle(n as u64, *four, setup, &windows[n], first, second);
     }
     run
 }
@@ -200,36 +191,38 @@ fn count_at(run: Run, i: usize) -> u32
     }
 }
 
-fn put_counts(run: Run, counts: &mut [u32])
-    requires { length counts.old ≡ 24 }
-    ensures { counts.new ≡ tabulate 24 (count_at (bank_of run.bank) run.sum) }
+fn counts_of(run: Run) -> [u32; COUNTS]
+    ensures { result ≡ tabulate 24 (count_at (bank_of run.bank) run.sum) }
 {
-    for i in 0..24 {
-        counts[i] = count_at(run, i);
-    }
+    array::from_fn(|i| count_at(run, i))
 }
 
-// A new bank with its timing. If the flag is not 0, it is bidirectional. Nothing is ordered yet.
-fn new_run(
-    arr: u16,
-    zero_high: u16,
-    one_high: u16,
-    reply_sample_arr: u16,
-    bidirectional: u32,
-) -> Run
-    ensures { (b : Buffers) → run_of result b ≡ Spec.start arr zero_high one_high reply_sample_arr (not (bidirectional == 0)) b }
+// A new bank with its timing. Nothing is ordered yet.
+fn new_run(timing: DshotTiming, bidirectional: bool) -> Run
+    ensures { (b : Buffers) → run_of result b ≡ Spec.start timing.arr timing.zero_high timing.one_high timing.reply_sample_arr bidirectional b }
 {
-    let timing = DshotTiming {
-        arr,
-        zero_high,
-        one_high,
-        reply_sample_arr,
-    };
-    let enabled = DshotBank::from_lanes(timing).enable_bidirectional(bidirectional != 0);
+    let enabled = DshotBank::from_lanes(timing).enable_bidirectional(bidirectional);
     Run {
         bank: enabled.bank,
         sum: 0,
     }
+}
+
+// Whether every slice has its length, for as many cycles as there are captures for.
+#[tactic(auto, unfolding(crate::specs::Cycles::fit))]
+fn are_whole(
+    throttles: &[u16],
+    captures: &[u16],
+    first: &[u16],
+    second: &[u16],
+    counts: &[u32],
+) -> bool
+    ensures { result ≡ fit (length captures.now / 640) (length throttles.now) (length first.now) (length second.now) (length counts.now) }
+{
+    throttles.len() == LANES * (captures.len() / SAMPLES)
+        && first.len() == SLOTS
+        && second.len() == SLOTS
+        && counts.len() == COUNTS
 }
 
 // Makes as many cycles of a new bank as there are captures for. Each cycle has 640 samples and four throttles. The call leaves the two buffers, and
@@ -256,26 +249,22 @@ pub extern "C" fn bench_bank_cycles(
     ensures second_after { second.new ≡ filled second_of second.old (asked arr zero_high one_high reply_sample_arr bidirectional present mask interrupts throttles.now captures.now first.old second.old counts.old) }
     ensures counts_after { counts.new ≡ filled counts_of counts.old (asked arr zero_high one_high reply_sample_arr bidirectional present mask interrupts throttles.now captures.now first.old second.old counts.old) }
 {
-    let n = captures.len() / SAMPLES;
-    if throttles.len() != LANES * n
-        || first.len() != SLOTS
-        || second.len() != SLOTS
-        || counts.len() != 24
-    {
+    if !are_whole(throttles, captures, first, second, counts) {
         return Refusal::WrongLength.number();
     }
-    let start = new_run(arr, zero_high, one_high, reply_sample_arr, bidirectional);
-    let run = cycles_from(
-        start,
-        n,
-        present != 0,
+    let timing = DshotTiming {
+        arr,
+        zero_high,
+        one_high,
+        reply_sample_arr,
+    };
+    let setup = Setup {
+        present: present != 0,
         mask,
         interrupts,
-        throttles,
-        captures,
-        first,
-        second,
-    );
-    put_counts(run, counts);
+    };
+    let start = new_run(timing, bidirectional != 0);
+    let run = cycles_from(start, setup, throttles, captures, first, second);
+    counts.copy_from_slice(&counts_of(run));
     0
 }

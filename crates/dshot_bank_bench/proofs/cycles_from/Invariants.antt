@@ -7,4 +7,4 @@ use Rattle.dshot_bank_bench.proofs.cycles_from.Given as goal
 abbrev pub invariant-loop-n : goal.invariant-loop-n
 invariant-loop-n l =
     ◌≡◌ {A = Run} (run_of l.run (record { first = l.first; second = l.second }))
-    (cycles l.present l.mask l.interrupts l.throttles l.captures (run_of l.initial.run (record { first = l.initial.first; second = l.initial.second })) l.n)
+    (cycles l.setup.present l.setup.mask l.setup.interrupts l.throttles l.captures (run_of l.initial.run (record { first = l.initial.first; second = l.initial.second })) l.n)
