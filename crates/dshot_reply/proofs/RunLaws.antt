@@ -8,11 +8,11 @@ use native.Mathlib.Nat.{zero-add, add-zero, add_assoc}
 use native.Mathlib.Omega.{arith}
 use borrow.Author.Tests.{lt-ltb, le-ltb}
 use lib.Dec.{ltb}
-use lib.ListN.{length, drop}
+use lib.ListN.{length, drop, length-map}
 use Rattle.dshot_reply_spec.specs.Answer.{Answer, given, pick, refused}
 use Rattle.dshot_reply_spec.specs.Refusals.{no_reply, overlong}
-use Rattle.dshot_reply_spec.specs.Runs.{assemble, finished, levels, run_bits, runs_of, runs_word, sum}
-use Rattle.dshot_reply.proofs.Levels.{levels-drop, levels-length}
+use Rattle.dshot_reply_spec.specs.Runs.{assemble, finished, high, levels, run_bits, runs_of, runs_word, sum}
+use Rattle.dshot_reply.proofs.Levels.{map-drop}
 use Rattle.dshot_reply.specs.Steps.{closed, same_for}
 
 -- ---- the first of the finished runs
@@ -77,33 +77,32 @@ assemble-end bits w h =
     simp (add-zero, le-ltb 21 bits h)
     (ap (λ (x : Answer ℕ). pick (ltb bits 18) (refused no_reply) x) (last-run (ltb bits 21) w (21 - bits)))
 
--- ---- what reading from the edge at i on gives, if the finished runs have made the bits of w
+-- ---- what reading the samples s from level l on gives, if the finished runs have made the bits of w
 
-abbrev pub rest : ℕ → ℕ → List ℕ → ℕ → Bool → ℕ → ℕ → Answer ℕ
-rest t m s i l bits w = assemble_from bits w (map (run_bits t) (finished l 0 (levels m (drop i s))))
+abbrev pub rest : ℕ → ℕ → List ℕ → Bool → ℕ → ℕ → Answer ℕ
+rest t m s l bits w = assemble_from bits w (map (run_bits t) (finished l 0 (levels m s)))
 
-pub rest-start : (t m : ℕ) (s : List ℕ) → assemble (runs_of t (levels m s)) ≡ rest t m s 0 false 0 0
+pub rest-start : (t m : ℕ) (s : List ℕ) → assemble (runs_of t (levels m s)) ≡ rest t m s false 0 0
 rest-start t m s = sym (assemble-start (runs_of t (levels m s)))
 
--- the run that starts at i ends at e
-module _ (t m : ℕ) (s : List ℕ) (i e : ℕ) (l : Bool) (bits w : ℕ) (ends : e ≡ i + same_for l (levels m (drop i s))) where
-  pub rest_end : e ≡ length s → bits ≤ 21 → rest t m s i l bits w ≡ closed bits w
+-- the samples begin with a run, which may end
+module _ (t m : ℕ) (s : List ℕ) (l : Bool) (bits w : ℕ) where
+  pub rest_end : same_for l (levels m s) ≡ length s → bits ≤ 21 → rest t m s l bits w ≡ closed bits w
   rest_end q h =
-      ap (λ (ns : List ℕ). assemble_from bits w (map (run_bits t) ns)) (run-open l 0 (levels m (drop i s)) (omega (arith, levels-length m i s)))
+      ap (λ (ns : List ℕ). assemble_from bits w (map (run_bits t) ns)) (run-open l 0 (levels m s) (q ∙ sym (length-map s (high m))))
       ∙ assemble-end bits w h
 
-  first_run : e < length s → rest t m s i l bits w ≡ assemble_from bits w (run_bits t (e - i) ∷ map (run_bits t) (finished (not l) 0 (levels m (drop e s))))
-  first_run h =
-      let k = same_for l (levels m (drop i s)) in
-      let long : k < length (levels m (drop i s)) = omega (arith, levels-length m i s) in
-      let d : 0 + k ≡ e - i = omega arith in
-      ap (λ (ns : List ℕ). assemble_from bits w (map (run_bits t) ns)) (run-closed l 0 (levels m (drop i s)) long)
-      ∙ ap (λ (n : ℕ). assemble_from bits w (run_bits t n ∷ map (run_bits t) (finished (not l) 0 (drop k (levels m (drop i s)))))) d
-      ∙ ap (λ (ls : List Bool). assemble_from bits w (run_bits t (e - i) ∷ map (run_bits t) (finished (not l) 0 ls)))
-      (levels-drop m i k s ∙ ap (λ (n : ℕ). levels m (drop n s)) (sym ends))
+  module _ (n : ℕ) (ends : n ≡ same_for l (levels m s)) (within : n < length s) where
+    first_run : rest t m s l bits w ≡ assemble_from bits w (run_bits t n ∷ map (run_bits t) (finished (not l) 0 (levels m (drop n s))))
+    first_run =
+        let d : 0 + same_for l (levels m s) ≡ n = omega arith in
+        ap (λ (ns : List ℕ). assemble_from bits w (map (run_bits t) ns)) (run-closed l 0 (levels m s) (omega (arith, ends, within, length-map s (high m))))
+        ∙ ap (λ (k : ℕ). assemble_from bits w (run_bits t k ∷ map (run_bits t) (finished (not l) 0 (drop (same_for l (levels m s)) (levels m s))))) d
+        ∙ ap (λ (k : ℕ). assemble_from bits w (run_bits t n ∷ map (run_bits t) (finished (not l) 0 (drop k (levels m s))))) (sym ends)
+        ∙ ap (λ (ls : List Bool). assemble_from bits w (run_bits t n ∷ map (run_bits t) (finished (not l) 0 ls))) (sym (map-drop (high m) n s))
 
-  pub rest-run : (k : ℕ) → e < length s → k ≡ run_bits t (e - i) → rest t m s i l bits w ≡ rest t m s e (not l) (bits + k) (w * 2 ^ k + 2 ^ (k - 1))
-  rest-run k h q = rw q (first_run h ∙ assemble-run bits w (run_bits t (e - i)) _)
+    pub rest-run : (k : ℕ) → k ≡ run_bits t n → rest t m s l bits w ≡ rest t m (drop n s) (not l) (bits + k) (w * 2 ^ k + 2 ^ (k - 1))
+    rest-run k q = rw q (first_run ∙ assemble-run bits w (run_bits t n) _)
 
-  pub rest_over : (k : ℕ) → e < length s → k ≡ run_bits t (e - i) → 21 < bits + k → rest t m s i l bits w ≡ refused overlong
-  rest_over k h q o = first_run h ∙ assemble-over bits w (run_bits t (e - i)) _ (rw q at o)
+    pub rest_over : (k : ℕ) → k ≡ run_bits t n → 21 < bits + k → rest t m s l bits w ≡ refused overlong
+    rest_over k q o = first_run ∙ assemble-over bits w (run_bits t n) _ (rw q at o)

@@ -40,11 +40,11 @@ pub fn reading_number(reply: DshotReply) -> u32
 {
     match reply {
         DshotReply::Erpm { erpm_div100 } => erpm_div100,
-        DshotReply::Temperature { celsius } => celsius as u32,
-        DshotReply::Voltage { quarter_volts } => quarter_volts as u32,
-        DshotReply::Current { amps } => amps as u32,
-        DshotReply::Debug { channel: _, value } => value as u32,
-        DshotReply::StateEvent { value } => value as u32,
+        DshotReply::Temperature { celsius } => u32::from(celsius),
+        DshotReply::Voltage { quarter_volts } => u32::from(quarter_volts),
+        DshotReply::Current { amps } => u32::from(amps),
+        DshotReply::Debug { channel: _, value } => u32::from(value),
+        DshotReply::StateEvent { value } => u32::from(value),
         DshotReply::ExtendedTelemetryEnabled => 0,
     }
 }

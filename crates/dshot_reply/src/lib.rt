@@ -18,14 +18,15 @@
 // The source's requirements: OUTPUT-003, OUTPUT-010, OUTPUT-011, OUTPUT-012, OUTPUT-013. Safety-critical.
 #![tactic(auto)]
 
-ghost use Rattle.std.specs.Prelude.{◌≡◌, ◌+◌, ◌*◌, ◌-◌, ◌^◌, ◌≤◌, ◌<◌, true, not, ◌&&◌, fold, position, length, drop};
+ghost use Rattle.std.specs.Prelude.{◌≡◌, ◌+◌, ◌*◌, ◌-◌, ◌^◌, ◌≤◌, ◌<◌, true, not, ◌&&◌, fold, position, length};
 ghost use Rattle.std.specs.Bool.{beq};
+ghost use Rattle.std.specs.List.{prefix_len};
 ghost use Rattle.dshot_reply_spec.specs.Gcr.{symbol_of, nibble_of, reply_word, decode_word};
-ghost use Rattle.dshot_reply_spec.specs.Runs.{high, levels, first_low, run_bits, runs_of, assemble, transitions_of};
+ghost use Rattle.dshot_reply_spec.specs.Runs.{high, levels, run_bits, runs_of, assemble, transitions_of};
 ghost use Rattle.dshot_reply_spec.specs.Value.{speed_of, speed_value, reading_of, reply_of};
 ghost use Rattle.dshot_reply_spec.specs.Reading.{sampled_reply};
 ghost use Rattle.dshot_reply.specs.Answers.{number_answer, reading, reply_answer, error_number};
-ghost use Rattle.dshot_reply.specs.Steps.{Encodes, Decodes, same_for, closed};
+ghost use Rattle.dshot_reply.specs.Steps.{Encodes, Decodes, closed};
 
 // Not in the source: a reply as two numbers, the period of a value, the numbers of refusals, and the simulated ESC.
 pub mod kind;
@@ -82,7 +83,7 @@ fn nibble_symbol(table: &[u32; 16], nibble: u16) -> u32
     requires { Encodes table.now × (nibble < 16) }
     ensures { (result ≡ symbol_of nibble) × (result < 32) }
 {
-    table[nibble as usize]
+    table[usize::from(nibble)]
 }
 
 // What an ESC sends for `value`, as transition bits: the checksum, the GCR symbols, and the start edge. For simulating replies.
@@ -125,37 +126,35 @@ fn first_off(samples: &[u16], pin_mask: u16, level: bool) -> Option<usize>
         .position(|sample| is_high(*sample, pin_mask) != level)
 }
 
-// How many samples from the first on are at `level`.
-fn run_length(samples: &[u16], pin_mask: u16, level: bool) -> usize
-    ensures value { result ≡ same_for level (levels pin_mask samples.now) }
-    ensures in_bounds { result ≤ length samples.now }
-{
-    first_off(samples, pin_mask, level).unwrap_or(samples.len())
-}
-
-// The place where the run that begins at `from` ends. Each level has a loop of its own, which is faster.
-fn next_edge(samples: &[u16], pin_mask: u16, level: bool, from: usize) -> usize
-    requires { from ≤ length samples.now }
-    ensures { result ≡ from + same_for level (levels pin_mask (drop from samples.now)) }
+// How long the run is that the samples begin with, if it ends. Each level has a loop of its own, which is faster.
+fn run_length(samples: &[u16], pin_mask: u16, level: bool) -> Option<usize>
+    ensures { result ≡ position (λ x. not (beq (high pin_mask x) level)) samples.now }
 {
     if level {
-        return from + run_length(&samples[from..], pin_mask, true);
+        first_off(samples, pin_mask, true)
+    } else {
+        first_off(samples, pin_mask, false)
     }
-    from + run_length(&samples[from..], pin_mask, false)
 }
 
-// The place of the first low sample. If there is none, the number of samples. It passes over high samples, eight at a time.
-fn first_low(samples: &[u16], pin_mask: u16) -> usize
-    ensures { result ≡ first_low (levels pin_mask samples.now) }
+// How many groups of eight, from the first on, are high.
+fn high_eights(eights: &[[u16; 8]], pin_mask: u16) -> usize
+    ensures { result ≡ prefix_len (fold (λ all x. all && high pin_mask x) true) eights.now }
 {
-    let mut left = samples;
-    while let Some((eight, rest)) = left.split_first_chunk() {
-        if !all_high(eight, pin_mask) {
-            break;
-        }
-        left = rest;
-    }
-    samples.len() - left.len() + run_length(left, pin_mask, true)
+    eights
+        .iter()
+        .take_while(|eight| all_high(eight, pin_mask))
+        .count()
+}
+
+// The place of the first low sample. It passes over high samples, eight at a time.
+fn first_low(samples: &[u16], pin_mask: u16) -> Option<usize>
+    ensures { result ≡ position (λ x. not (beq (high pin_mask x) true)) samples.now }
+{
+    let (eights, _) = samples.as_chunks();
+    let passed = 8 * high_eights(eights, pin_mask);
+    let low = first_off(&samples[passed..], pin_mask, true)?;
+    Some(passed + low)
 }
 
 // The run's samples, rounded to the nearest bit and never under one.
@@ -194,21 +193,19 @@ fn read_runs(samples: &[u16], pin_mask: u16) -> Result<u32, DshotReplyError>
     requires { length samples.now ≤ 69 }
     ensures { number_answer result ≡ assemble (runs_of 3 (levels pin_mask samples.now)) }
 {
+    let mut left = samples;
     let mut level = false;
-    let mut run_start: usize = 0;
     let mut bits: u32 = 0;
     let mut transitions: u32 = 0;
-    let mut edge = next_edge(samples, pin_mask, level, run_start);
-    while edge < samples.len() {
-        let run = run_bits(edge - run_start);
+    while let Some(length) = run_length(left, pin_mask, level) {
+        let run = run_bits(length);
         if REPLY_BITS - bits < run {
             return Err(DshotReplyError::Overlong);
         }
         transitions = push_run(transitions, run);
         bits += run;
-        run_start = edge;
+        left = &left[length..];
         level = !level;
-        edge = next_edge(samples, pin_mask, level, run_start);
     }
     close(bits, transitions)
 }
@@ -220,10 +217,7 @@ pub fn reply_transitions(samples: &[u16], pin_mask: u16) -> Result<u32, DshotRep
 {
     // At least `MIN_REPLY_SAMPLES` samples must follow from the start on.
     let starts = samples.len().saturating_sub(MIN_REPLY_SAMPLES - 1);
-    let start = first_low(&samples[..starts], pin_mask);
-    if start == starts {
-        return Err(DshotReplyError::NoReply);
-    }
+    let start = first_low(&samples[..starts], pin_mask).ok_or(DshotReplyError::NoReply)?;
     let end = start + (samples.len() - start).min(MAX_REPLY_SAMPLES);
     read_runs(&samples[start..end], pin_mask)
 }
@@ -309,7 +303,7 @@ fn speed_value(value: u16) -> Result<DshotReply, DshotReplyError>
     if value == ERPM_STOPPED {
         return Ok(DshotReply::Erpm { erpm_div100: 0 });
     }
-    speed_of(((value % 512) as u32) << (value / 512))
+    speed_of(u32::from(value % 512) << (value / 512))
 }
 
 // A typed reading, by half its type nibble.

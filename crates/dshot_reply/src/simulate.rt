@@ -36,10 +36,7 @@ impl From<SimulateError> for Refusal {
 pub fn period_value(period_us: u32) -> Result<u16, SimulateError>
     ensures { period_answer result ≡ period_value period_us }
 {
-    if period_us == 0 {
-        return Err(SimulateError::PeriodOutOfRange);
-    }
-    if 65535 < period_us {
+    if period_us == 0 || 65535 < period_us {
         return Err(SimulateError::PeriodOutOfRange);
     }
     let mut left = period_us;

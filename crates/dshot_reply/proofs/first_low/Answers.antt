@@ -1,33 +1,48 @@
 -- `dshot_reply::first_low` meets its contract: the samples passed are high.
 -- Assumes nothing.
-use mathlib.Core.Path.{◌≡◌, sym, ap, ◌∙◌}
-use native.Mathlib.Omega.{arith}
-use borrow.Author.Rules.{rules}
-use Prim.Native.Nat.{ℕ, ◌+◌}
+use mathlib.Core.Path.{◌≡◌, sym, ap, subst, ◌∙◌}
+use mathlib.Core.Bool.{not, beq, true, ◌&&◌}
 use mathlib.Core.List.{List}
-use lib.ListN.{drop, length, take}
-use Rattle.dshot_reply_spec.specs.Runs.{first_low, levels}
-use Rattle.dshot_reply.proofs.Levels.{all-high, high-front, low-ends-high}
+use Prim.Native.Nat.{ℕ, ◌-◌, ◌*◌, ◌/◌}
+use native.Mathlib.Omega.{arith}
+use lib.ListN.{drop, take, length, length-drop}
+use lib.Seq.{take_all}
+use Rattle.std.specs.List.{fold, position, prefix_len}
+use Rattle.std.specs.Simd.{first_chunks}
+use Rattle.dshot_reply_spec.specs.Runs.{high}
+use Rattle.dshot_reply.proofs.Levels.{High, groups_high, past_some, past_none}
 use Rattle.dshot_reply.proofs.first_low.Goals as goal
 
-pub loop-eight-preserved : goal.loop-eight-preserved
-loop-eight-preserved c =
-    let m = c.args.pin_mask in
-    let left = c.loop-eight.left.now in
-    let eight = c.in-Some.eight.now in
-    let cut = c.in-Some.ensures.cases in
-    let high = (all-high m _ eight (sym c.all_high.ensures ∙ c.if-not-all_high.false)).1 in
-    let counted : length eight ≡ 8 = search rules in
-    let low : List ℕ → ℕ = λ samples. first_low (levels m samples) in
-    let passed : low (take 8 left) ≡ 8 = sym (ap low cut.0) ∙ high ∙ counted in
-    let front : low left ≡ low (drop 8 left) + 8 = high-front m 8 left (omega (arith, cut.2)) passed in
-    let tail : low c.in-Some.rest.now ≡ low (drop 8 left) = ap low cut.1 in (
-      omega (arith, cut.2, c.loop-eight.invariant.0),
-      omega (arith, cut.2, c.loop-eight.invariant.1, front, tail),
-    )
+passed : (m : ℕ) (s : List ℕ) (groups : List (List ℕ)) (n : ℕ) → groups ≡ first_chunks 8 (length s / 8) s
+    → n ≡ prefix_len (fold (λ all x. all && high m x) true) groups → High m (8 * n) s
+passed m s groups n g e =
+    subst (λ (k : ℕ). High m (8 * k) s) (sym (e ∙ ap (prefix_len (fold (λ all x. all && high m x) true)) g)) (groups_high m (length s / 8) s (omega arith))
+
+whole : (p : ℕ) (s : List ℕ) → take (length s - p) (drop p s) ≡ drop p s
+whole p s = take_all (length s - p) (drop p s) (omega (arith, length-drop p s))
+
+pub overflow_mul-passed : goal.overflow_mul-passed
+overflow_mul-passed c = omega (arith, (passed c.args.pin_mask c.args.samples.now c.as_chunks.result.0.now c.high_eights-passed.result c.as_chunks.ensures.front c.high_eights-passed.ensures).0)
+
+pub offset_bounds-samples-passed : goal.offset_bounds-samples-passed
+offset_bounds-samples-passed c = omega (arith, (passed c.args.pin_mask c.args.samples.now c.as_chunks.result.0.now c.high_eights-passed.result c.as_chunks.ensures.front c.high_eights-passed.ensures).0)
+
+pub slice_bounds-first_off-count : goal.slice_bounds-first_off-count
+slice_bounds-first_off-count c = (passed c.args.pin_mask c.args.samples.now c.as_chunks.result.0.now c.high_eights-passed.result c.as_chunks.ensures.front c.high_eights-passed.ensures).0
+
+pub slice_bounds-first_off-start : goal.slice_bounds-first_off-start
+slice_bounds-first_off-start c = (passed c.args.pin_mask c.args.samples.now c.as_chunks.result.0.now c.high_eights-passed.result c.as_chunks.ensures.front c.high_eights-passed.ensures).0
+
+pub returns-in_err-low : goal.returns-in_err-low
+returns-in_err-low c =
+    let a = c.args in
+    let p = 8 * c.high_eights-passed.result in
+    let first : c.first_off.result ≡ position (λ x. not (beq (high a.pin_mask x) true)) (drop p a.samples.now) = rw (whole p a.samples.now) at c.first_off.ensures in
+    c.from_residual.ensures ∙ past_none a.pin_mask p a.samples.now (passed c.args.pin_mask c.args.samples.now c.as_chunks.result.0.now c.high_eights-passed.result c.as_chunks.ensures.front c.high_eights-passed.ensures) c.first_off.result first c.in_err-low.was
 
 pub returns : goal.returns
 returns c =
-    let m = c.args.pin_mask in
-    let left = c.loop-eight.left.now in
-    omega (arith, c.run_length.ensures.value, low-ends-high (levels m left), c.loop-eight.invariant.0, c.loop-eight.invariant.1)
+    let a = c.args in
+    let p = 8 * c.high_eights-passed.result in
+    let first : c.first_off.result ≡ position (λ x. not (beq (high a.pin_mask x) true)) (drop p a.samples.now) = rw (whole p a.samples.now) at c.first_off.ensures in
+    past_some a.pin_mask p a.samples.now (passed c.args.pin_mask c.args.samples.now c.as_chunks.result.0.now c.high_eights-passed.result c.as_chunks.ensures.front c.high_eights-passed.ensures) c.first_off.result c.in_ok-low.low first c.in_ok-low.was

@@ -10,10 +10,10 @@ use Rattle.dshot_reply.proofs.speed_value.Goals as goal
 pub speed_of-requires : goal.speed_of-requires
 speed_of-requires c =
     let v = c.args.value in
-    rw (period-shl 32 v (lit≤ tt) c.requires) (period-lt v c.requires)
+    rw (c.from.ensures, period-shl 32 v (lit≤ tt) c.requires) (period-lt v c.requires)
 
 pub returns : goal.returns
 unfolding speed_value
 returns c =
     let v = c.args.value in
-    c.speed_of.ensures ∙ simp (ne_eqb v 0xfff c.if-value-eq-ERPM_STOPPED.false, period-shl 32 v (lit≤ tt) c.requires)
+    c.speed_of.ensures ∙ simp (ne_eqb v 0xfff c.if-value-eq-ERPM_STOPPED.false, c.from.ensures, period-shl 32 v (lit≤ tt) c.requires)
