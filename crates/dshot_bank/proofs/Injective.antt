@@ -40,8 +40,7 @@ use Rattle.dshot_bank.specs.declared.commands.DshotTelemetryRequestError.TheVari
 use Rattle.dshot_bank.specs.declared.orders.Orders.{Orders}
 use Rattle.dshot_bank.specs.declared.service.DshotServiceEvent.{DshotServiceEvent}
 use Rattle.dshot_bank.specs.declared.service.DshotServiceEvent.TheVariants as ServiceEvents
-use Rattle.dshot_bank.specs.declared.service.ServiceError.{ServiceError}
-use Rattle.dshot_bank.specs.declared.service.ServiceError.TheVariants as ServiceErrors
+use Rattle.dshot_reply.specs.declared.refusals.WrongLength.{WrongLength}
 use Rattle.dshot_bank.specs.declared.interrupt.DshotInterruptEvent.{DshotInterruptEvent}
 use Rattle.dshot_bank.specs.declared.interrupt.DshotInterruptEvent.TheVariants as InterruptEvents
 use Rattle.dshot_bank.specs.declared.interrupt.InterruptError.{InterruptError}
@@ -120,13 +119,13 @@ pub core_of-injective : (a b : Core) → core_of a ≡ core_of b → a ≡ b
 core_of-injective a b e =
     let stats = stats_of-injective a.stats b.stats (ap (λ (q : Spec.Core). q.stats) e) in
     let timing = timing_of-injective a.timing b.timing (ap (λ (q : Spec.Core). q.timing) e) in
-    let lease = lease_of-injective a.demand.lease_over_after_ms b.demand.lease_over_after_ms (ap (λ (q : Spec.Core). q.demand.lease_duration_ms) e) in
+    let lease = option_of-injective (λ n. n) (λ x y h. h) a.demand.lease_duration_ms b.demand.lease_duration_ms (ap (λ (q : Spec.Core). q.demand.lease_duration_ms) e) in
     let request = choice_of-injective a.requests.telemetry_request b.requests.telemetry_request (ap (λ (q : Spec.Core). q.telemetry.request) e) in
     let sent = choice_of-injective a.requests.telemetry_request_sent b.requests.telemetry_request_sent (ap (λ (q : Spec.Core). q.telemetry.request_sent) e) in
     let run = command_sequence_of-injective a.requests.command_sequence b.requests.command_sequence (ap (λ (q : Spec.Core). q.command_sequence) e) in
     λ j. record {
       timing = timing j;
-      demand = record { requested_values = (e j).demand.requested_values; lease_started_ms = (e j).demand.lease_started_ms; lease_over_after_ms = lease j };
+      demand = record { requested_values = (e j).demand.requested_values; lease_started_ms = (e j).demand.lease_started_ms; lease_duration_ms = lease j };
       requests = record { telemetry_request = request j; telemetry_request_sent = sent j; command_sequence = run j };
       frame = record {
         in_second = (e j).frame.in_second;
@@ -255,11 +254,11 @@ service-event-back ServiceEvents.Busy = refl
 service-event-back ServiceEvents.LeaseExpired = refl
 service-event-back ServiceEvents.Faulted = refl
 
-pub service_answer-injective : (a b : Result DshotServiceEvent ServiceError) (l m : List Order) (u v : List Bool) → service_answer a l u ≡ service_answer b m v → a ≡ b
+pub service_answer-injective : (a b : Result DshotServiceEvent WrongLength) (l m : List Order) (u v : List Bool) → service_answer a l u ≡ service_answer b m v → a ≡ b
 service_answer-injective (Ok e) (Ok f) l m u v h = ap Ok (injective service_event_of service_event_back service-event-back e f (cc))
 service_answer-injective (Ok e) (Err y) l m u v h = cc
 service_answer-injective (Err x) (Ok f) l m u v h = cc
-service_answer-injective (Err ServiceErrors.WrongLength) (Err ServiceErrors.WrongLength) l m u v h = refl
+service_answer-injective (Err x) (Err y) l m u v h = refl
 
 interrupt_event_back : InterruptEvent → DshotInterruptEvent
 interrupt_event_back completed = InterruptEvents.Completed

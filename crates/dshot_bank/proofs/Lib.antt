@@ -1,3 +1,4 @@
+pub mod CommandLaws
 pub mod Injective
 pub mod LaneTests
 pub mod OrderLaws

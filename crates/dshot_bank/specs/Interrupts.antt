@@ -10,7 +10,7 @@ use Rattle.dshot_bank.specs.declared.interrupt.DshotInterruptEvent.{DshotInterru
 use Rattle.dshot_bank.specs.declared.interrupt.DshotInterruptEvent.TheVariants.{Completed, Faulted, Spurious}
 use Rattle.dshot_bank.specs.declared.interrupt.InterruptError.{InterruptError}
 use Rattle.dshot_bank.specs.declared.interrupt.InterruptError.TheVariants.{NoSuchMotor}
-use Rattle.dshot_bank.specs.declared.interrupt.Handled.{Handled}
+use Rattle.dshot_bank.specs.declared.send.Handled.{Handled}
 use Rattle.dshot_bank.specs.States.{core_of}
 use Rattle.dshot_bank.specs.Orders.{held}
 
@@ -28,7 +28,7 @@ interrupt_answer (Ok event) orders = interrupted (interrupt_event_of event) orde
 interrupt_answer (Err error) orders = refused (interrupt_error_number error)
 
 -- The code and the definition have the same event, orders and core.
-pub record Interrupts (r : Handled) (s : Spec.Interrupted) : Type 0 where
+pub record Interrupts (r : Handled DshotInterruptEvent) (s : Spec.Interrupted) : Type 0 where
   pub event : interrupt_event_of r.event ≡ s.event
   pub orders : r.orders ≡ held s.orders
   pub core : core_of r.core ≡ s.core

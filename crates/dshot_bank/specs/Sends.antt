@@ -1,6 +1,7 @@
 -- What the code that sends a frame set returns, in the terms of the definitions. Only private functions cite this.
 -- Assumes nothing.
-use Rattle.std.specs.Prelude.{◌≡◌, ℕ}
+use Rattle.std.specs.Prelude.{◌≡◌, ℕ, List, replicate, unwrap_or}
+use Rattle.std.specs.Option.{is_some}
 use Rattle.std.specs.Prelude as Std
 use Rattle.std.proofs.Math.Option.{Option}
 use Rattle.dshot.specs.Answers.{lane_of}
@@ -26,9 +27,9 @@ next_frame_of n = record { command = motor_command_of n.command; left = command_
 abbrev pub frame_set_of : FrameSet → Sets.FrameSet
 frame_set_of f = record { values = f.values; telemetry_lane = lane_of f.telemetry_lane; telemetry_request = choice_of f.telemetry_request }
 
--- The code and the definition have the same start, orders, first duties and core.
+-- The code and the definition have the same start, orders, first duties (zeros without a start) and core.
 pub record Sends (r : Sent) (s : Send.Sent) : Type 0 where
-  pub started : r.started ≡ s.started
+  pub started : is_some r.first_duties ≡ s.started
   pub orders : r.orders ≡ held s.orders
-  pub duties : r.first_duties ≡ duties_in s.orders
+  pub duties : unwrap_or r.first_duties (replicate 4 0) ≡ duties_in s.orders
   pub core : core_of r.core ≡ s.core

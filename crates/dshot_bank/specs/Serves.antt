@@ -9,10 +9,9 @@ use Rattle.dshot_bank_spec.specs.Service as Spec
 use Rattle.dshot_bank_spec.specs.Calls.{Answer, refused, serviced}
 use Rattle.dshot_bank.specs.declared.service.DshotServiceEvent.{DshotServiceEvent}
 use Rattle.dshot_bank.specs.declared.service.DshotServiceEvent.TheVariants.{FrameStarted, Busy, LeaseExpired, Faulted}
-use Rattle.dshot_bank.specs.declared.service.ServiceError.{ServiceError}
-use Rattle.dshot_bank.specs.declared.service.ServiceError.TheVariants.{WrongLength}
+use Rattle.dshot_reply.specs.declared.refusals.WrongLength.{WrongLength}
 use Rattle.dshot_bank.specs.declared.service.Served.{Served}
-use Rattle.dshot_bank.specs.declared.service.Skipped.{Skipped}
+use Rattle.dshot_bank.specs.declared.send.Handled.{Handled}
 use Rattle.dshot_bank.specs.States.{core_of, bank_of}
 use Rattle.dshot_bank.specs.Orders.{held}
 use Rattle.dshot_bank_spec.specs.OrderNumber.{duties_in}
@@ -23,16 +22,16 @@ service_event_of Busy = busy
 service_event_of LeaseExpired = lease_expired_event
 service_event_of Faulted = faulted
 
-abbrev pub service_error_number : ServiceError → ℕ
-service_error_number WrongLength = wrong_length
+abbrev pub service_error_number : WrongLength → ℕ
+service_error_number e = wrong_length
 
 -- an event with its orders and the marks before the call, or document 01's number of the refusal
-abbrev pub service_answer : Result DshotServiceEvent ServiceError → List Order → List Bool → Answer
+abbrev pub service_answer : Result DshotServiceEvent WrongLength → List Order → List Bool → Answer
 service_answer (Ok event) orders in_second = serviced (service_event_of event) orders in_second
 service_answer (Err error) orders in_second = refused (service_error_number error)
 
 -- The code and the definition have the same event, orders and core.
-pub record Skips (r : Skipped) (s : Spec.Skipped) : Type 0 where
+pub record Skips (r : Handled DshotServiceEvent) (s : Spec.Skipped) : Type 0 where
   pub event : service_event_of r.event ≡ s.event
   pub orders : r.orders ≡ held s.orders
   pub duties : duties_in [] ≡ duties_in s.orders

@@ -1,6 +1,7 @@
 -- What the code's state means in the terms of the definitions. Stands for `DshotBank` of the Rust's dshot_bank.rs.
 -- Assumes nothing.
-use Rattle.std.specs.Prelude.{ℕ, List, map, nat_lt, if◌then◌else◌}
+use Rattle.std.specs.Prelude.{ℕ, Bool, List, map, nat_lt, if◌then◌else◌}
+use Rattle.std.specs.Option.{is_some}
 use Rattle.std.specs.Prelude as Std
 use Rattle.std.proofs.Math.Option.{Option, none, some}
 use Rattle.dshot_reply_spec.specs.Answer as Reply
@@ -8,7 +9,7 @@ use Rattle.dshot_reply_spec.specs.Answer.{given, refused}
 use Rattle.dshot_reply_spec.specs.Refusals.{no_reply, overlong, invalid_symbol, wrong_checksum, zero_period}
 use Rattle.dshot_reply_spec.specs.Value.{Reading, erpm, temp, volt, amp, debug, state, edt}
 use Rattle.dshot.specs.Answers.{timing_of, run_of}
-use Rattle.dshot_bank_spec.specs.State.{Buffers, lease_of}
+use Rattle.dshot_bank_spec.specs.State.{Buffers}
 use Rattle.dshot_bank_spec.specs.State as Spec
 use Rattle.dshot_bank_spec.specs.Calls.{State, Answer, Stepped}
 use Rattle.dshot_bank.specs.declared.DshotMotor.{DshotMotor}
@@ -40,12 +41,19 @@ option_of meaning (Std.Some value) = some (meaning value)
 abbrev pub choice_of : Std.Option DshotMotor → Option ℕ
 choice_of = option_of motor_of
 
+-- The masks of the lanes' captures: whether each lane has one, and its mask. Without a capture it is 0.
+abbrev pub present_of : List (Std.Option ℕ) → List Bool
+present_of l = map is_some l
+
+abbrev pub masks_of : List (Std.Option ℕ) → List ℕ
+masks_of l = map (λ mask. Std.unwrap_or mask 0) l
+
 -- the motor of a lane; there are four
 abbrev pub motor_at : ℕ → Option ℕ
 motor_at lane = if nat_lt lane 4 then some lane else none
 
 abbrev pub demand_of : Demand → Spec.Demand
-demand_of d = record { requested_values = d.requested_values; lease_started_ms = d.lease_started_ms; lease_duration_ms = lease_of d.lease_over_after_ms }
+demand_of d = record { requested_values = d.requested_values; lease_started_ms = d.lease_started_ms; lease_duration_ms = option_of (λ n. n) d.lease_duration_ms }
 
 abbrev pub telemetry_of : Requests → Spec.Telemetry
 telemetry_of r = record { request = choice_of r.telemetry_request; request_sent = choice_of r.telemetry_request_sent }

@@ -3,8 +3,10 @@
 //
 // The calls that command a bank: demands, runs of special commands, and telemetry requests.
 
-ghost use Rattle.std.specs.Prelude.{◌≡◌, ℕ, nat_lt, replicate};
+ghost use Rattle.std.specs.Prelude.{◌≡◌, ℕ, None, nat_lt, replicate, if◌then◌else◌};
 ghost use Rattle.std.specs.List.{list_any};
+ghost use Rattle.dshot_reply_spec.specs.Answer.{refused};
+ghost use Rattle.dshot_reply_spec.specs.Refusals.{no_such_motor};
 ghost use Rattle.dshot_reply.specs.Answers.{answer};
 ghost use Rattle.dshot_reply.specs.Refusals.{refusal_number};
 ghost use Rattle.dshot.specs.Answers.{run_of};
@@ -15,10 +17,10 @@ ghost use Rattle.dshot_bank_spec.specs.With.{with_demand};
 ghost use Rattle.dshot_bank_spec.specs.Calls as Call;
 ghost use Rattle.dshot_bank_spec.specs.Calls.{done, motor_sent, commanded};
 ghost use Rattle.dshot_bank_spec.specs.Steps.{step};
-ghost use Rattle.dshot_bank.specs.States.{motor_of, choice_of, demand_of, core_of, state_of, stepped};
+ghost use Rattle.dshot_bank.specs.States.{choice_of, demand_of, core_of, state_of, stepped};
 ghost use Rattle.dshot_bank.specs.Answers.{init_error_number, command_error_number, special_error_number, request_error_number, done_answer, enabled_answer, throttled_answer, special_answer, requested_answer};
 
-use crate::{Core, DSHOT_COMMAND_MAX, Demand, DshotBank, DshotMotor, LANES, MotorRun};
+use crate::{Answered, Core, DSHOT_COMMAND_MAX, Demand, DshotBank, DshotMotor, LANES, MotorRun};
 use dshot::{DshotCommandSequence, MotorValues, throttles_to_dshot};
 use dshot_reply::refusals::Refusal;
 
@@ -99,26 +101,15 @@ impl From<DshotTelemetryRequestError> for Refusal {
     }
 }
 
-// What a command answers, with the bank after it.
-#[derive(Clone, Copy)]
-pub struct Commanded<E> {
-    pub answer: Result<(), E>,
-    pub bank: DshotBank,
-}
+pub type Enabled = Answered<Result<(), DshotInitError>>;
 
-pub type Enabled = Commanded<DshotInitError>;
+pub type Throttled = Answered<Result<(), DshotCommandError>>;
 
-pub type Throttled = Commanded<DshotCommandError>;
+pub type Queued = Answered<Result<(), DshotSpecialCommandError>>;
 
-pub type Queued = Commanded<DshotSpecialCommandError>;
+pub type Requested = Answered<Result<(), DshotTelemetryRequestError>>;
 
-pub type Requested = Commanded<DshotTelemetryRequestError>;
-
-#[derive(Clone, Copy)]
-pub struct SentTaken {
-    pub motor: Option<DshotMotor>,
-    pub bank: DshotBank,
-}
+pub type SentTaken = Answered<Option<DshotMotor>>;
 
 // Whether one of the values is above this.
 pub fn any_above(values: MotorValues, most: u16) -> bool
@@ -138,15 +129,15 @@ impl Demand {
     fn is_running(self) -> bool
         ensures { result ≡ is_running (demand_of self) }
     {
-        self.lease_over_after_ms != 0 || any_requested(self.requested_values)
+        self.lease_duration_ms.is_some() || any_requested(self.requested_values)
     }
 
     pub(crate) fn stopped(self) -> Self
-        ensures { result ≡ record { requested_values = replicate 4 0; lease_started_ms = self.lease_started_ms; lease_over_after_ms = 0 } }
+        ensures { result ≡ record { requested_values = replicate 4 0; lease_started_ms = self.lease_started_ms; lease_duration_ms = None } }
     {
         Demand {
             requested_values: [0; LANES],
-            lease_over_after_ms: 0,
+            lease_duration_ms: None,
             ..self
         }
     }
@@ -174,7 +165,7 @@ impl Demand {
         Ok(Demand {
             requested_values: throttles_to_dshot(commands),
             lease_started_ms: now_ms,
-            lease_over_after_ms: u64::from(lease_duration_ms) + 1,
+            lease_duration_ms: Some(lease_duration_ms),
         })
     }
 }
@@ -183,11 +174,12 @@ impl Core {
     #[tactic(auto, unfolding(dshot_bank_spec::specs::Commands::command_special))]
     fn queued(
         mut self,
-        motor: DshotMotor,
+        motor: usize,
         sequence: DshotCommandSequence,
     ) -> Result<Self, DshotSpecialCommandError>
-        ensures { answer core_of special_error_number result ≡ command_special (motor_of motor) (run_of sequence) (core_of self) }
+        ensures { answer core_of special_error_number result ≡ (if nat_lt motor 4 then command_special motor (run_of sequence) (core_of self) else refused no_such_motor) }
     {
+        let motor = DshotMotor::from_index(motor).ok_or(DshotSpecialCommandError::NoSuchMotor)?;
         if self.frame.faulted {
             return Err(DshotSpecialCommandError::Faulted);
         }
@@ -202,9 +194,10 @@ impl Core {
     }
 
     #[tactic(auto, unfolding(dshot_bank_spec::specs::Commands::request_telemetry))]
-    fn requested(mut self, motor: DshotMotor) -> Result<Self, DshotTelemetryRequestError>
-        ensures { answer core_of request_error_number result ≡ request_telemetry (motor_of motor) (core_of self) }
+    fn requested(mut self, motor: usize) -> Result<Self, DshotTelemetryRequestError>
+        ensures { answer core_of request_error_number result ≡ (if nat_lt motor 4 then request_telemetry motor (core_of self) else refused no_such_motor) }
     {
+        let motor = DshotMotor::from_index(motor).ok_or(DshotTelemetryRequestError::NoSuchMotor)?;
         if self.frame.faulted {
             return Err(DshotTelemetryRequestError::Faulted);
         }
@@ -219,21 +212,15 @@ impl Core {
 #[tactic(auto, unfolding(dshot_bank_spec::specs::Steps::step, dshot_bank_spec::specs::Steps::port_refusal))]
 impl DshotBank {
     // The bank with the core that a command leaves. If it is refused, the bank stays.
-    fn commanded<E: Copy>(mut self, done: Result<Core, E>) -> Commanded<E>
+    fn commanded<E: Copy>(mut self, done: Result<Core, E>) -> Answered<Result<(), E>>
         ensures { (number : E → ℕ) (b : Buffers) → stepped (done_answer number result.answer) result.bank b ≡ commanded (state_of self b) (answer core_of number done) }
     {
         match done {
             Ok(core) => {
                 self.core = core;
-                Commanded {
-                    answer: Ok(()),
-                    bank: self,
-                }
+                self.answering(Ok(()))
             }
-            Err(error) => Commanded {
-                answer: Err(error),
-                bank: self,
-            },
+            Err(error) => self.answering(Err(error)),
         }
     }
 
@@ -244,16 +231,10 @@ impl DshotBank {
         ensures { (b : Buffers) → stepped (enabled_answer result.answer) result.bank b ≡ step 4 (state_of self b) (Call.enable_bidirectional_call receives_replies) }
     {
         if !receives_replies {
-            return Enabled {
-                answer: Err(DshotInitError::RepliesUnsupported),
-                bank: self,
-            };
+            return self.answering(Err(DshotInitError::RepliesUnsupported));
         }
         self.core.frame.bidirectional = true;
-        Enabled {
-            answer: Ok(()),
-            bank: self,
-        }
+        self.answering(Ok(()))
     }
 
     #[tactic(auto, unfolding(dshot_bank_spec::specs::Steps::step, dshot_bank_spec::specs::Steps::port_refusal, dshot_bank_spec::specs::Commands::command_stop))]
@@ -285,7 +266,7 @@ impl DshotBank {
             }
             Err(error) => Err(error),
         };
-        Throttled { answer, bank: self }
+        self.answering(answer)
     }
 
     // Queues a run of special-command frames for one motor, such as a spin direction change and save.
@@ -294,13 +275,7 @@ impl DshotBank {
     pub fn command_special(self, motor: usize, sequence: DshotCommandSequence) -> Queued
         ensures { (b : Buffers) → stepped (special_answer result.answer) result.bank b ≡ step 4 (state_of self b) (Call.command_special_call motor (run_of sequence)) }
     {
-        match DshotMotor::from_index(motor) {
-            Some(motor) => self.commanded(self.core.queued(motor, sequence)),
-            None => Queued {
-                answer: Err(DshotSpecialCommandError::NoSuchMotor),
-                bank: self,
-            },
-        }
+        self.commanded(self.core.queued(motor, sequence))
     }
 
     // Requests legacy UART telemetry from exactly one motor in the next frame that starts without a special command. A frame with a special command
@@ -308,13 +283,7 @@ impl DshotBank {
     pub fn request_telemetry(self, motor: usize) -> Requested
         ensures { (b : Buffers) → stepped (requested_answer result.answer) result.bank b ≡ step 4 (state_of self b) (Call.request_telemetry_call motor) }
     {
-        match DshotMotor::from_index(motor) {
-            Some(motor) => self.commanded(self.core.requested(motor)),
-            None => Requested {
-                answer: Err(DshotTelemetryRequestError::NoSuchMotor),
-                bank: self,
-            },
-        }
+        self.commanded(self.core.requested(motor))
     }
 
     // Withdraws a telemetry request no frame has carried yet. The ESC manager has given up on it, so it must not reach an ESC later.
@@ -329,9 +298,9 @@ impl DshotBank {
     // Takes the lane whose telemetry bit was included in the frame started by the most recent `service` call.
     #[tactic(auto, unfolding(dshot_bank_spec::specs::Steps::step, dshot_bank_spec::specs::Steps::port_refusal, dshot_bank_spec::specs::Commands::clear_request_sent))]
     pub fn take_telemetry_request_sent(mut self) -> SentTaken
-        ensures { (b : Buffers) → stepped (motor_sent (choice_of result.motor)) result.bank b ≡ step 4 (state_of self b) Call.take_telemetry_request_sent }
+        ensures { (b : Buffers) → stepped (motor_sent (choice_of result.answer)) result.bank b ≡ step 4 (state_of self b) Call.take_telemetry_request_sent }
     {
         let motor = self.core.requests.telemetry_request_sent.take();
-        SentTaken { motor, bank: self }
+        self.answering(motor)
     }
 }

@@ -17,6 +17,7 @@ ghost use Rattle.dshot_bank.specs.Orders.{held, orders_of, Begins, Just};
 ghost use Rattle.dshot_bank.specs.Interrupts.{interrupt_error_number, interrupt_answer, Interrupts};
 
 use crate::orders::{OrderKind, Orders};
+use crate::send::Handled;
 use crate::{Core, DshotBank, DshotMotor, DshotStats, Frame};
 use dshot_reply::refusals::Refusal;
 
@@ -61,14 +62,6 @@ pub struct Interrupted {
     pub answer: Result<DshotInterruptEvent, InterruptError>,
     pub orders: Orders,
     pub bank: DshotBank,
-}
-
-// An event, with the orders and the core after it.
-#[derive(Clone, Copy)]
-pub(crate) struct Handled {
-    pub event: DshotInterruptEvent,
-    pub orders: Orders,
-    pub core: Core,
 }
 
 impl DshotStats {
@@ -136,40 +129,31 @@ impl Core {
         self.frame_done()
     }
 
-    fn handled(self, event: DshotInterruptEvent, orders: Orders) -> Handled
-        ensures { result ≡ record { event = event; orders = orders; core = self } }
-    {
-        Handled {
-            event,
-            orders,
-            core: self,
-        }
-    }
-
-    fn latched(self, spurious: bool, event: DshotInterruptEvent, orders: Orders) -> Handled
+    fn latched(
+        self,
+        spurious: bool,
+        event: DshotInterruptEvent,
+        orders: Orders,
+    ) -> Handled<DshotInterruptEvent>
         requires { (orders.count ≤ 4) × (orders.codes < 268435456) }
         ensures { (result.event ≡ event) × (((l : List Order) → orders ≡ held l → result.orders ≡ held (l ++ latch_orders 4)) × (core_of result.core ≡ latch_fault 4 spurious (core_of self))) }
     {
-        Handled {
-            event,
-            orders: orders.latched(),
-            core: self.latch_fault(spurious),
-        }
+        self.latch_fault(spurious).handled(event, orders.latched())
     }
 
     // A lane has completed. After the last lane of a transmission, the receive window opens or the set is done. After the last window, the set is
     // done.
     #[tactic(auto, unfolding(dshot_bank_spec::specs::Interrupt::after_lane))]
-    fn after_lane(self, paused: Orders, turned: bool, turned_back: bool) -> Handled
+    fn after_lane(self, paused: Orders, answers: DmaAnswers) -> Handled<DshotInterruptEvent>
         requires { (paused.count ≡ 1) × (paused.codes < 128) }
-        ensures { (motor : DshotMotor) → Begins paused motor → Interrupts result (after_lane 4 (motor_of motor) true false turned turned_back (core_of self)) }
+        ensures { (motor : DshotMotor) → Begins paused motor → Interrupts result (after_lane 4 (motor_of motor) true false answers.turned answers.turned_back (core_of self)) }
     {
         if self.frame.completion_mask != ALL_MOTORS_COMPLETE {
             return self.handled(DshotInterruptEvent::Completed, paused);
         }
         if self.frame.opens_window() {
             let orders = paused.then(OrderKind::BeginReceive);
-            if turned {
+            if answers.turned {
                 return self
                     .window_opened()
                     .handled(DshotInterruptEvent::Completed, orders);
@@ -178,7 +162,7 @@ impl Core {
         }
         if self.frame.receiving {
             let orders = paused.then(OrderKind::EndReceive);
-            if turned_back {
+            if answers.turned_back {
                 return self
                     .window_closed()
                     .handled(DshotInterruptEvent::Completed, orders);
@@ -194,12 +178,9 @@ impl Core {
     fn on_dma_interrupt(
         self,
         motor: DshotMotor,
-        transfer_complete: bool,
-        dma_error: bool,
-        turned: bool,
-        turned_back: bool,
-    ) -> Handled
-        ensures { Interrupts result (Spec.on_dma_interrupt 4 (motor_of motor) transfer_complete dma_error turned turned_back (core_of self)) }
+        answers: DmaAnswers,
+    ) -> Handled<DshotInterruptEvent>
+        ensures { Interrupts result (Spec.on_dma_interrupt 4 (motor_of motor) answers.transfer_complete answers.dma_error answers.turned answers.turned_back (core_of self)) }
     {
         let paused = Orders::paused(motor);
         if self.frame.faulted {
@@ -208,30 +189,21 @@ impl Core {
         if !self.frame.busy || self.frame.completion_mask & motor.completion_bit() != 0 {
             return self.latched(true, DshotInterruptEvent::Spurious, paused);
         }
-        if dma_error {
+        if answers.dma_error {
             return self.latched(false, DshotInterruptEvent::Faulted, paused);
         }
-        if !transfer_complete {
+        if !answers.transfer_complete {
             return self.latched(true, DshotInterruptEvent::Spurious, paused);
         }
-        self.lane_done(motor)
-            .after_lane(paused, turned, turned_back)
+        self.lane_done(motor).after_lane(paused, answers)
     }
 }
 
 #[tactic(auto, unfolding(dshot_bank_spec::specs::Steps::step, dshot_bank_spec::specs::Steps::port_refusal))]
 impl DshotBank {
-    // `turned` says whether every lane turned to receive, and `turned_back` whether every lane turned back. Each counts only if the Rust would ask
-    // for it.
-    pub fn on_dma_interrupt(
-        mut self,
-        motor: usize,
-        transfer_complete: bool,
-        dma_error: bool,
-        turned: bool,
-        turned_back: bool,
-    ) -> Interrupted
-        ensures b_value { (b : Buffers) → stepped (interrupt_answer result.answer (orders_of result.orders (replicate 4 0))) result.bank b ≡ step 4 (state_of self b) (on_dma_interrupt_call motor transfer_complete dma_error turned turned_back) }
+    // `turned` and `turned_back` count only if the Rust would ask for them.
+    pub fn on_dma_interrupt(mut self, motor: usize, answers: DmaAnswers) -> Interrupted
+        ensures b_value { (b : Buffers) → stepped (interrupt_answer result.answer (orders_of result.orders (replicate 4 0))) result.bank b ≡ step 4 (state_of self b) (on_dma_interrupt_call motor answers.transfer_complete answers.dma_error answers.turned answers.turned_back) }
         ensures just { Just result.orders (replicate 4 0) (interrupt_answer result.answer (orders_of result.orders (replicate 4 0))) }
     {
         let Some(motor) = DshotMotor::from_index(motor) else {
@@ -241,9 +213,7 @@ impl DshotBank {
                 bank: self,
             };
         };
-        let handled = self
-            .core
-            .on_dma_interrupt(motor, transfer_complete, dma_error, turned, turned_back);
+        let handled = self.core.on_dma_interrupt(motor, answers);
         self.core = handled.core;
         Interrupted {
             answer: Ok(handled.event),

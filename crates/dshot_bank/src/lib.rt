@@ -137,9 +137,7 @@ pub struct DshotStats {
 pub struct Demand {
     pub requested_values: MotorValues,
     pub lease_started_ms: u64,
-    // The lease is over this many milliseconds after its start: its duration + 1. It is 0 without a lease. It is one number and not an enum, so that
-    // it stays in a register.
-    pub lease_over_after_ms: u64,
+    pub lease_duration_ms: Option<u32>,
 }
 
 // Special-command frames still to send, for one motor. They are sent only while every throttle is zero. If a throttle demand is in force when a
@@ -221,7 +219,20 @@ pub struct DshotBank {
     pub replies: [LaneReply; LANES],
 }
 
+// What a call without orders answers, with the bank after it.
+#[derive(Clone, Copy)]
+pub struct Answered<T> {
+    pub answer: T,
+    pub bank: DshotBank,
+}
+
 impl DshotBank {
+    pub(crate) fn answering<T: Copy>(self, answer: T) -> Answered<T>
+        ensures { result ≡ record { answer = answer; bank = self } }
+    {
+        Answered { answer, bank: self }
+    }
+
     // A bank whose lanes hold their first buffers, with one spare per lane. The first lent buffer is current, and the second is spare.
     #[tactic(auto, unfolding(dshot_bank_spec::specs::Commands::from_lanes))]
     pub fn from_lanes(timing: DshotTiming) -> Self

@@ -196,25 +196,24 @@ impl Orders {
         }
     }
 
-    // An exchange for each lane up to this one.
-    fn exchanged(lane: usize) -> Self
-        requires { lane < 4 }
-        ensures { (result.count ≤ 4) × (result.codes < 268435456) × (result ≡ held (tabulate (lane + 1) exchange_buffer)) }
+    // An exchange for each lane up to that of this motor.
+    fn exchanged(motor: DshotMotor) -> Self
+        ensures { (result.count ≤ 4) × (result.codes < 268435456) × (result ≡ held (tabulate (motor_of motor + 1) exchange_buffer)) }
     {
-        match lane {
-            0 => Orders {
+        match motor {
+            DshotMotor::Motor1 => Orders {
                 count: 1,
                 codes: EXCHANGES_1,
             },
-            1 => Orders {
+            DshotMotor::Motor2 => Orders {
                 count: 2,
                 codes: EXCHANGES_2,
             },
-            2 => Orders {
+            DshotMotor::Motor3 => Orders {
                 count: 3,
                 codes: EXCHANGES_3,
             },
-            _ => Orders {
+            DshotMotor::Motor4 => Orders {
                 count: 4,
                 codes: EXCHANGES_4,
             },
@@ -231,11 +230,10 @@ impl Orders {
         }
     }
 
-    // The orders of a frame set if this lane refuses its buffer.
-    pub(crate) fn refused(lane: usize) -> Self
-        requires { lane < 4 }
-        ensures { result ≡ held (refused_orders 4 lane) }
+    // The orders of a frame set if this motor refuses its buffer.
+    pub(crate) fn refused(motor: DshotMotor) -> Self
+        ensures { result ≡ held (refused_orders 4 (motor_of motor)) }
     {
-        Orders::exchanged(lane).latched()
+        Orders::exchanged(motor).latched()
     }
 }

@@ -3,37 +3,38 @@
 //
 // The replies of the last receive window, and their counts.
 
-ghost use Rattle.std.specs.Prelude.{◌≡◌, ◌<◌, false, map, get_or};
+ghost use Rattle.std.specs.Prelude.{◌≡◌, ◌<◌, false, map, get_or, unwrap_or};
+ghost use Rattle.std.specs.Option.{is_some};
 ghost use Rattle.dshot_reply_spec.specs.Answer.{refused, is_given};
 ghost use Rattle.dshot_reply_spec.specs.Refusals.{no_reply};
 ghost use Rattle.dshot_reply.specs.Answers.{reply_answer};
 ghost use Rattle.dshot_spec.specs.Tabulate.{tabulate};
 ghost use Rattle.dshot_bank_spec.specs.State.{Buffers};
 ghost use Rattle.dshot_bank_spec.specs.Commands.{no_replies};
-ghost use Rattle.dshot_bank_spec.specs.Replies.{window, read_window, count_reply};
-ghost use Rattle.dshot_bank_spec.specs.Service.{read_replies};
+ghost use Rattle.dshot_bank_spec.specs.Replies.{window, read_window, count_reply, decode_replies};
 ghost use Rattle.dshot_bank_spec.specs.Calls as Call;
 ghost use Rattle.dshot_bank_spec.specs.Calls.{reply_counts};
 ghost use Rattle.dshot_bank_spec.specs.Steps.{step};
-ghost use Rattle.dshot_bank.specs.States.{stored_answer, lane_reply_of, replies_of, state_of, stepped};
+ghost use Rattle.dshot_bank.specs.States.{present_of, masks_of, stored_answer, lane_reply_of, replies_of, state_of, stepped};
 ghost use Rattle.dshot_bank.specs.Answers.{answers_of, taken_answer, reply_stats_of};
 
-use crate::{DshotBank, LANES, LaneReply, Samples, StoredReply};
-use dshot::MotorValues;
+use crate::{Answered, DshotBank, LANES, LaneReply, Samples, StoredReply};
 use dshot_reply::{DshotReply, DshotReplyError, REPLY_WINDOW_SAMPLES, decode_sampled_reply};
 use std::array;
 
 // An answer of the hardware for each lane.
 pub type LaneFlags = [bool; LANES];
 
+// What the hardware answers at a service: for each lane whether it took its buffer, and the mask of its capture, if it has one.
+#[derive(Clone, Copy, Debug, PartialEq, Eq)]
+pub struct LaneAnswers {
+    pub taken: LaneFlags,
+    pub masks: [Option<u16>; LANES],
+}
+
 pub type DshotReplies = [Result<DshotReply, DshotReplyError>; LANES];
 
-// The replies decoded since the last call, if there are any.
-#[derive(Clone, Copy)]
-pub struct RepliesTaken {
-    pub replies: Option<DshotReplies>,
-    pub bank: DshotBank,
-}
+pub type RepliesTaken = Answered<Option<DshotReplies>>;
 
 // Each lane's bidirectional reply accounting.
 #[derive(Clone, Copy, Debug, PartialEq, Eq)]
@@ -44,10 +45,10 @@ pub struct DshotReplyStats {
     pub consecutive_invalid: [u32; LANES],
 }
 
-impl StoredReply {
-    pub fn of(reply: Result<DshotReply, DshotReplyError>) -> Self
-        ensures { stored_answer result ≡ reply_answer reply }
-    {
+impl From<Result<DshotReply, DshotReplyError>> for StoredReply {
+    ghost from_gives = { λ r s. stored_answer s ≡ reply_answer r };
+
+    fn from(reply: Result<DshotReply, DshotReplyError>) -> Self {
         match reply {
             Ok(DshotReply::Erpm { erpm_div100 }) => StoredReply::Erpm(erpm_div100),
             Ok(DshotReply::Temperature { celsius }) => StoredReply::Temperature(celsius),
@@ -63,12 +64,13 @@ impl StoredReply {
             Err(DshotReplyError::ZeroPeriod) => StoredReply::ZeroPeriod,
         }
     }
+}
 
-    // The reply as the reader gives it.
-    pub fn read(self) -> Result<DshotReply, DshotReplyError>
-        ensures { reply_answer result ≡ stored_answer self }
-    {
-        match self {
+impl From<StoredReply> for Result<DshotReply, DshotReplyError> {
+    ghost from_gives = { λ s r. reply_answer r ≡ stored_answer s };
+
+    fn from(stored: StoredReply) -> Self {
+        match stored {
             StoredReply::Erpm(erpm_div100) => Ok(DshotReply::Erpm { erpm_div100 }),
             StoredReply::Temperature(celsius) => Ok(DshotReply::Temperature { celsius }),
             StoredReply::Voltage(quarter_volts) => Ok(DshotReply::Voltage { quarter_volts }),
@@ -82,6 +84,15 @@ impl StoredReply {
             StoredReply::Checksum => Err(DshotReplyError::Checksum),
             StoredReply::ZeroPeriod => Err(DshotReplyError::ZeroPeriod),
         }
+    }
+}
+
+impl StoredReply {
+    // The reply as the reader gives it.
+    fn read(self) -> Result<DshotReply, DshotReplyError>
+        ensures { reply_answer result ≡ stored_answer self }
+    {
+        self.into()
     }
 
     fn is_ok(self) -> bool
@@ -116,25 +127,25 @@ impl LaneReply {
 }
 
 // A lane's reply, from its window. Extended telemetry is not enabled yet, so every value except its acknowledgement is read as eRPM.
-fn read_window(captures: &Samples, lane: usize, present: bool, mask: u16) -> StoredReply
+fn read_window(captures: &Samples, lane: usize, mask: Option<u16>) -> StoredReply
     requires { lane < 4 }
-    ensures { stored_answer result ≡ read_window present (window captures.now lane) mask }
+    ensures { stored_answer result ≡ read_window (is_some mask) (window captures.now lane) (unwrap_or mask 0) }
 {
-    if !present {
+    let Some(mask) = mask else {
         return StoredReply::NoReply;
-    }
+    };
     let from = REPLY_WINDOW_SAMPLES * lane;
     let window = &captures[from..from + REPLY_WINDOW_SAMPLES];
-    StoredReply::of(decode_sampled_reply(window, mask, false))
+    decode_sampled_reply(window, mask, false).into()
 }
 
 // Each lane's reply. With `array::from_fn` the proof does not close.
-fn read_windows(present: LaneFlags, masks: MotorValues, captures: &Samples) -> [StoredReply; LANES]
-    ensures { map stored_answer result ≡ tabulate 4 (λ lane. read_window (get_or present lane false) (window captures.now lane) (get_or masks lane 0)) }
+fn read_windows(masks: [Option<u16>; LANES], captures: &Samples) -> [StoredReply; LANES]
+    ensures { map stored_answer result ≡ tabulate 4 (λ lane. read_window (get_or (present_of masks) lane false) (window captures.now lane) (get_or (masks_of masks) lane 0)) }
 {
     let mut reads = [StoredReply::NoReply; LANES];
     for lane in 0..LANES {
-        reads[lane] = read_window(captures, lane, present[lane], masks[lane]);
+        reads[lane] = read_window(captures, lane, masks[lane]);
     }
     reads
 }
@@ -147,22 +158,16 @@ fn count_replies(old: [LaneReply; LANES], reads: [StoredReply; LANES]) -> [LaneR
     array::from_fn(|lane| old[lane].counting(reads[lane]))
 }
 
-// Decodes the last receive window, if one waits. All lanes are read before any is counted, which is faster.
-#[tactic(auto, unfolding(dshot_bank_spec::specs::Service::read_replies, dshot_bank_spec::specs::Replies::decode_replies, dshot_spec::specs::Tabulate::tabulate))]
-pub(crate) fn read_replies(
-    waiting: bool,
+// Decodes the last receive window. All lanes are read before any is counted, which is faster.
+#[tactic(auto, unfolding(dshot_bank_spec::specs::Replies::decode_replies, dshot_spec::specs::Tabulate::tabulate))]
+pub(crate) fn decode_replies(
     old: [LaneReply; LANES],
-    present: LaneFlags,
-    masks: MotorValues,
+    masks: [Option<u16>; LANES],
     captures: &Samples,
 ) -> [LaneReply; LANES]
-    ensures { replies_of result ≡ read_replies 4 waiting present masks captures.now (replies_of old) }
+    ensures { replies_of result ≡ decode_replies 4 (present_of masks) (masks_of masks) captures.now (replies_of old) }
 {
-    if waiting {
-        count_replies(old, read_windows(present, masks, captures))
-    } else {
-        old
-    }
+    count_replies(old, read_windows(masks, captures))
 }
 
 fn reads_of(lanes: [LaneReply; LANES]) -> DshotReplies
@@ -175,17 +180,17 @@ fn reads_of(lanes: [LaneReply; LANES]) -> DshotReplies
 impl DshotBank {
     // The replies decoded since the last call, once.
     pub fn take_replies(mut self) -> RepliesTaken
-        ensures { (b : Buffers) → stepped (taken_answer result.replies) result.bank b ≡ step 4 (state_of self b) Call.take_replies }
+        ensures { (b : Buffers) → stepped (taken_answer result.answer) result.bank b ≡ step 4 (state_of self b) Call.take_replies }
     {
         if !self.core.frame.replies_held {
             return RepliesTaken {
-                replies: None,
+                answer: None,
                 bank: self,
             };
         }
         self.core.frame.replies_held = false;
         RepliesTaken {
-            replies: Some(reads_of(self.replies)),
+            answer: Some(reads_of(self.replies)),
             bank: self,
         }
     }
@@ -193,6 +198,7 @@ impl DshotBank {
     pub fn reply_stats(self) -> DshotReplyStats
         ensures { (b : Buffers) → stepped (reply_counts (reply_stats_of result)) self b ≡ step 4 (state_of self b) Call.reply_stats }
     {
+        // With three `map` the proof does not close.
         let [a, b, c, d] = self.replies;
         DshotReplyStats {
             valid: [a.valid, b.valid, c.valid, d.valid],

@@ -9,15 +9,16 @@ ghost use Rattle.dshot_reply_spec.specs.Answer.{given, refused};
 ghost use Rattle.dshot_reply_spec.specs.Refusals.{wrong_length};
 ghost use Rattle.dshot_reply.specs.Answers.{answer};
 ghost use Rattle.dshot_spec.specs.Sequence.{sequence_of};
-ghost use Rattle.dshot.specs.Answers.{kind_of, words, timing_of, encode_error_number};
-ghost use Rattle.std.specs.List.{position};
+ghost use Rattle.dshot.specs.Answers.{words, timing_of, encode_error_number};
+ghost use Rattle.std.specs.List as First;
+ghost use Rattle.dshot_bank_spec.specs.Lanes.{position};
 ghost use Rattle.dshot_bank_spec.specs.State.{Buffers};
 ghost use Rattle.dshot_bank_spec.specs.With.{with_frame, with_in_second};
 ghost use Rattle.dshot_bank_spec.specs.Steps.{slots_fit};
 ghost use Rattle.dshot_bank_spec.specs.Commands.{next_of_run, next_command_frame};
-ghost use Rattle.dshot_bank_spec.specs.FrameSet.{frame_set, kind_sent, first_duties, write_spare, encode_lanes};
+ghost use Rattle.dshot_bank_spec.specs.FrameSet.{frame_set, first_duties, write_spare, encode_lanes};
 ghost use Rattle.dshot_bank_spec.specs.Send.{count_fault, latch_fault, turn_marks, carry, exchange_refused, frame_started, exchange_buffers, send_requested, sent_buffers};
-ghost use Rattle.dshot_bank.specs.States.{motor_of, choice_of, telemetry_of, command_sequence_of, stats_of, frame_of, core_of};
+ghost use Rattle.dshot_bank.specs.States.{motor_of, motor_at, choice_of, telemetry_of, command_sequence_of, stats_of, frame_of, core_of};
 ghost use Rattle.dshot_bank.specs.Sends.{next_frame_of, motor_command_of, frame_set_of, Sends};
 
 use crate::commands::any_requested;
@@ -46,12 +47,19 @@ pub(crate) struct FrameSet {
     pub telemetry_request: Option<DshotMotor>,
 }
 
-// Whether a frame set started, with the orders, the first duties and the core after it.
+// The first duties if a frame set started, with the orders and the core after it.
 #[derive(Clone, Copy)]
 pub(crate) struct Sent {
-    pub started: bool,
+    pub first_duties: Option<MotorValues>,
     pub orders: Orders,
-    pub first_duties: MotorValues,
+    pub core: Core,
+}
+
+// An event without a frame set, with the orders and the core after it.
+#[derive(Clone, Copy)]
+pub(crate) struct Handled<E> {
+    pub event: E,
+    pub orders: Orders,
     pub core: Core,
 }
 
@@ -72,6 +80,16 @@ impl DshotStats {
 }
 
 impl Core {
+    pub(crate) fn handled<E: Copy>(self, event: E, orders: Orders) -> Handled<E>
+        ensures { result ≡ record { event = event; orders = orders; core = self } }
+    {
+        Handled {
+            event,
+            orders,
+            core: self,
+        }
+    }
+
     // Latches a fault. Its orders are `Orders::latched`.
     #[tactic(auto, unfolding(dshot_bank_spec::specs::Send::latch_fault, dshot_bank_spec::specs::Commands::command_stop))]
     pub(crate) fn latch_fault(mut self, spurious: bool) -> Self
@@ -151,16 +169,6 @@ impl Core {
             },
         }
     }
-
-    fn kind(self) -> ChecksumKind
-        ensures { kind_of result ≡ kind_sent (core_of self) }
-    {
-        if self.frame.bidirectional {
-            ChecksumKind::Inverted
-        } else {
-            ChecksumKind::Plain
-        }
-    }
 }
 
 // ---- sequences
@@ -232,11 +240,17 @@ pub fn encode_spares(
 
 // ---- the exchange
 
-// The first lane that did not take its buffer.
-fn first_refused(taken: LaneFlags) -> Option<usize>
-    ensures { result ≡ position not taken }
+fn first_off(flags: LaneFlags) -> Option<usize>
+    ensures { result ≡ First.position not flags }
 {
-    taken.iter().position(|taken| !*taken)
+    flags.iter().position(|flag| !*flag)
+}
+
+// The first motor whose lane did not take its buffer.
+fn first_refused(taken: LaneFlags) -> Option<DshotMotor>
+    ensures { choice_of result ≡ motor_at (position not taken) }
+{
+    DshotMotor::from_index(first_off(taken)?)
 }
 
 // Turns the marks of the first lanes.
@@ -279,17 +293,15 @@ impl Core {
         self
     }
 
-    // A lane refuses its buffer. The lanes before it have turned.
+    // A motor refuses its buffer. The lanes before it have turned.
     #[tactic(auto, unfolding(dshot_bank_spec::specs::Send::exchange_refused, dshot_spec::specs::Tabulate::tabulate))]
-    fn exchange_refused(self, lane: usize) -> Sent
-        requires { lane < 4 }
-        ensures { Sends result (exchange_refused 4 lane (core_of self)) }
+    fn exchange_refused(self, motor: DshotMotor) -> Sent
+        ensures { Sends result (exchange_refused 4 (motor_of motor) (core_of self)) }
     {
-        let core = self.marks_turned(lane).latch_fault(false);
+        let core = self.marks_turned(motor.index()).latch_fault(false);
         Sent {
-            started: false,
-            orders: Orders::refused(lane),
-            first_duties: [0; LANES],
+            first_duties: None,
+            orders: Orders::refused(motor),
             core,
         }
     }
@@ -316,13 +328,12 @@ impl Core {
     ) -> Sent
         ensures { Sends result (exchange_buffers 4 now_ms taken (choice_of request) duties (core_of self)) }
     {
-        if let Some(lane) = first_refused(taken) {
-            return self.exchange_refused(lane);
+        if let Some(motor) = first_refused(taken) {
+            return self.exchange_refused(motor);
         }
         Sent {
-            started: true,
+            first_duties: Some(duties),
             orders: Orders::started(),
-            first_duties: duties,
             core: self.frame_started(now_ms, request),
         }
     }
@@ -340,7 +351,8 @@ impl Core {
     {
         let next = self.next_command_frame();
         let set = self.frame_set(next.command);
-        let packets = packets_of_kind(self.kind(), set.values, set.telemetry_lane);
+        let kind = ChecksumKind::sent(self.frame.bidirectional);
+        let packets = packets_of_kind(kind, set.values, set.telemetry_lane);
         let duties = encode_lanes(first, second, self.frame.in_second, packets, self.timing);
         self.requests.command_sequence = next.left;
         self.exchange_buffers(now_ms, taken, set.telemetry_request, duties)

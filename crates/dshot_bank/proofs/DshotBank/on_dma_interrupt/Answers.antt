@@ -25,11 +25,11 @@ returns c =
     let a = c.args in
     let k = core_of a.self.core in
     let m = c.in-Some.motor in
-    let call : ℕ → Call = λ i. on_dma_interrupt_call i a.transfer_complete a.dma_error a.turned a.turned_back in
-    let s = Spec.on_dma_interrupt 4 (motor_of m) a.transfer_complete a.dma_error a.turned a.turned_back k in
+    let call : ℕ → Call = λ i. on_dma_interrupt_call i a.answers.transfer_complete a.answers.dma_error a.answers.turned a.answers.turned_back in
+    let s = Spec.on_dma_interrupt 4 (motor_of m) a.answers.transfer_complete a.answers.dma_error a.answers.turned a.answers.turned_back k in
     let h = c.on_dma_interrupt-handled.ensures in
     let orders = c.on_dma_interrupt-handled.result.orders in
-    let quiet = quiet-interrupt m a.transfer_complete a.dma_error a.turned a.turned_back k in
+    let quiet = quiet-interrupt m a.answers.transfer_complete a.answers.dma_error a.answers.turned a.answers.turned_back k in
     let told = back orders (replicate 4 0) s.orders h.orders quiet.duties (whole-quiet s.orders quiet) in
     let f = found (motor_of m) a.motor c.in-Some.ensures in
     record {
