@@ -81,7 +81,7 @@ fn count_reply(state: &mut [u16; SLOTS], k: usize, read: Result<DshotReply, Dsho
         invalid: word_at(state, k + 5),
         consecutive_invalid: word_at(state, k + 7),
     };
-    put_lane(state, k, read, before.counting(StoredReply::of(read)));
+    put_lane(state, k, read, before.counting(StoredReply::from(read)));
 }
 
 // Reads and counts the window of a lane whose slots begin at `k`. Extended telemetry is not enabled yet, so every value except its acknowledgement is

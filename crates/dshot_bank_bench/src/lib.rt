@@ -2,22 +2,33 @@
 #![tactic(auto)]
 
 ghost use Rattle.std.specs.Prelude.{◌≡◌, ◌*◌, ◌/◌, true, false, not, length, replicate, ◌==◌};
+ghost use Rattle.std.specs.Bool.{then_some};
 ghost use Rattle.dshot_reply_spec.specs.Answer.{refusal_number, filled};
 ghost use Rattle.dshot_spec.specs.Tabulate.{tabulate};
 ghost use Rattle.dshot_bank_spec.specs.State.{Buffers};
 ghost use Rattle.dshot_bank_spec.specs.Calls.{command_throttles_call, service_call, on_dma_interrupt_call};
-ghost use Rattle.dshot_bank.specs.States.{stored_answer, bank_of};
+ghost use Rattle.dshot_bank.specs.States.{present_of, masks_of, stored_answer, bank_of};
 ghost use Rattle.dshot_bank_bench.specs.Cycles.{add_all, numbers_in, after, past, speed, count_at, asked, fit, first_of, second_of, counts_of};
 ghost use Rattle.dshot_bank_bench.specs.Runs.{run_of};
 ghost use Rattle.dshot_bank_bench.specs.Cycles as Spec;
 
 use dshot::{DshotTiming, MotorValues};
+use dshot_bank::interrupt::DmaAnswers;
 use dshot_bank::orders::Orders;
+use dshot_bank::replies::LaneAnswers;
 use dshot_bank::{DshotBank, LANES, SAMPLES, SLOTS, StoredReply};
 use dshot_reply::refusals::Refusal;
 use std::array;
 
 const LEASE_MS: u32 = 10;
+
+// An interrupt whose transfer is complete. If the lanes are asked to turn, they turn.
+const COMPLETE: DmaAnswers = DmaAnswers {
+    transfer_complete: true,
+    dma_error: false,
+    turned: true,
+    turned_back: true,
+};
 
 // The numbers that are given of a bank.
 const COUNTS: usize = 24;
@@ -28,6 +39,18 @@ struct Setup {
     present: bool,
     mask: u16,
     interrupts: usize,
+}
+
+impl Setup {
+    // All buffers are taken.
+    fn answers(self) -> LaneAnswers
+        ensures { (result.taken ≡ replicate 4 true) × (result.masks ≡ replicate 4 (then_some self.present self.mask)) }
+    {
+        LaneAnswers {
+            taken: [true; LANES],
+            masks: [self.present.then_some(self.mask); LANES],
+        }
+    }
 }
 
 // A bank, and the sum of its orders so far.
@@ -59,11 +82,11 @@ fn add_duties(sum: u32, duties: MotorValues) -> u32
 }
 
 impl Run {
-    // An interrupt of a lane. Its transfer is complete. If the lanes are asked to turn, they turn.
+    // An interrupt of a lane.
     fn interrupt(self, lane: usize) -> Self
         ensures { (b : Buffers) → run_of result b ≡ after (run_of self b) (on_dma_interrupt_call lane true false true true) }
     {
-        let done = self.bank.on_dma_interrupt(lane, true, false, true, true);
+        let done = self.bank.on_dma_interrupt(lane, COMPLETE);
         Run {
             bank: done.bank,
             sum: add_duties(add_orders(self.sum, done.orders), [0; LANES]),
@@ -93,26 +116,18 @@ impl Run {
         }
     }
 
-    // Sends a frame set. All buffers are taken.
+    // Sends a frame set.
     fn serve(
         self,
         now_ms: u64,
-        setup: Setup,
+        answers: LaneAnswers,
         captures: &[u16],
         first: &mut [u16],
         second: &mut [u16],
     ) -> Self
-        ensures { ◌≡◌ {A = Spec.Run} (run_of result (record { first = first.exit.now; second = second.new })) (after (run_of self (record { first = first.entry.now; second = second.old })) (service_call now_ms (replicate 4 true) (replicate 4 setup.present) (replicate 4 setup.mask) captures.now)) }
+        ensures { ◌≡◌ {A = Spec.Run} (run_of result (record { first = first.exit.now; second = second.new })) (after (run_of self (record { first = first.entry.now; second = second.old })) (service_call now_ms answers.taken (present_of answers.masks) (masks_of answers.masks) captures.now)) }
     {
-        let served = self.bank.service(
-            now_ms,
-            [true; LANES],
-            [setup.present; LANES],
-            [setup.mask; LANES],
-            first,
-            second,
-            captures,
-        );
+        let served = self.bank.service(now_ms, answers, first, second, captures);
         Run {
             bank: served.bank,
             sum: add_duties(add_orders(self.sum, served.orders), served.first_duties),
@@ -131,7 +146,7 @@ impl Run {
         ensures { ◌≡◌ {A = Spec.Run} (run_of result (record { first = first.exit.now; second = second.new })) (Spec.cycle throttles setup.present setup.mask captures.now setup.interrupts now_ms (run_of self (record { first = first.entry.now; second = second.old }))) }
     {
         self.throttle(throttles, now_ms)
-            .serve(now_ms, setup, captures, first, second)
+            .serve(now_ms, setup.answers(), captures, first, second)
             .interrupts(setup.interrupts)
     }
 }

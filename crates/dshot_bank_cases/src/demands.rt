@@ -85,5 +85,5 @@ pub(crate) fn take_telemetry_request_sent(given: &[u64], bank: DshotBank) -> Opt
         return None;
     };
     let taken = bank.take_telemetry_request_sent();
-    answered(&[of_motor(taken.motor)], taken.bank)
+    answered(&[of_motor(taken.answer)], taken.bank)
 }

@@ -21,9 +21,9 @@ fn of_timing(timing: DshotTiming) -> [u64; 4] {
 fn put_demand(out: &mut impl Write, demand: Demand) -> io::Result<()> {
     put::numbers(out, &demand.requested_values.map(u64::from))?;
     put::numbers(out, &[demand.lease_started_ms])?;
-    match demand.lease_over_after_ms.checked_sub(1) {
+    match demand.lease_duration_ms {
         None => put::numbers(out, &[0]),
-        Some(duration) => put::numbers(out, &[1, duration]),
+        Some(duration) => put::numbers(out, &[1, u64::from(duration)]),
     }
 }
 
@@ -62,7 +62,7 @@ pub(crate) fn put_fields(out: &mut impl Write, bank: DshotBank) -> io::Result<()
     put::numbers(out, &of_frame(core.frame))?;
     put::numbers(
         out,
-        replies::of_taken(bank.take_replies().replies).as_slice(),
+        replies::of_taken(bank.take_replies().answer).as_slice(),
     )?;
     put::numbers(out, &counts::of_stats(core.stats))?;
     put::numbers(

@@ -5,6 +5,7 @@ use crate::outcome::Outcome;
 use crate::part;
 use crate::part::of_event;
 use dshot_bank::DshotBank;
+use dshot_bank::interrupt::DmaAnswers;
 
 // 9 MOTOR COMPLETE ERROR TURNED BACK. The events count from 1, in the source's order.
 pub(crate) fn on_dma_interrupt(given: &[u64], bank: DshotBank) -> Option<Outcome> {
@@ -12,7 +13,13 @@ pub(crate) fn on_dma_interrupt(given: &[u64], bank: DshotBank) -> Option<Outcome
         return None;
     };
     let [complete, error, turned, back] = flags([complete, error, turned, back])?;
-    let interrupted = bank.on_dma_interrupt(motor as usize, complete, error, turned, back);
+    let answers = DmaAnswers {
+        transfer_complete: complete,
+        dma_error: error,
+        turned,
+        turned_back: back,
+    };
+    let interrupted = bank.on_dma_interrupt(motor as usize, answers);
     let event = interrupted.answer.map(|event| event as u64 + 1);
     Some(Outcome {
         answer: part::of(&of_event(event)),

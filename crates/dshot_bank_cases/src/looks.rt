@@ -16,7 +16,7 @@ pub(crate) fn look(code: u64, given: &[u64], bank: DshotBank) -> Option<Outcome>
     match code {
         10 => {
             let taken = bank.take_replies();
-            answered(replies::of_taken(taken.replies).as_slice(), taken.bank)
+            answered(replies::of_taken(taken.answer).as_slice(), taken.bank)
         }
         11 => answered(&[u64::from(bank.is_bidirectional())], bank),
         12 => answered(&[u64::from(bank.is_faulted())], bank),

@@ -7,7 +7,9 @@ use crate::part::of_event;
 use crate::slots::{Buffers, ROOM};
 use case_text::captures::unroll;
 use dshot_bank::DshotBank;
+use dshot_bank::replies::LaneAnswers;
 use dshot_bank::service::Served;
+use std::array;
 
 const MOST_SAMPLES: usize = 700;
 
@@ -28,6 +30,8 @@ pub(crate) fn service(given: &[u64], bank: DshotBank, buffers: &mut Buffers) -> 
     let taken = flags(*taken)?;
     let present = flags(*present)?;
     let masks = masks.try_map(u16::try_from).ok()?;
+    let masks = array::from_fn(|lane| present[lane].then_some(masks[lane]));
+    let answers = LaneAnswers { taken, masks };
     let mut captures = [0; MOST_SAMPLES];
     let captures = captures.get_mut(..*samples as usize)?;
     unroll(runs, *stated, captures)?;
@@ -39,7 +43,7 @@ pub(crate) fn service(given: &[u64], bank: DshotBank, buffers: &mut Buffers) -> 
         orders,
         first_duties,
         bank,
-    } = bank.service(*now_ms, taken, present, masks, first, second, captures);
+    } = bank.service(*now_ms, answers, first, second, captures);
     let event = answer.map(|event| event as u64 + 1);
     Some(Outcome {
         answer: part::of(&of_event(event)),

@@ -1,9 +1,8 @@
 -- `dshot_bank_bench::Run::cycle` meets its contract: throttles, a service, and interrupts.
 -- Assumes nothing.
-use Rattle.std.proofs.Common.{◌≡◌, ℕ, true, List, replicate, ap, ◌∙◌}
-use Rattle.std.specs.Prelude as Std
-use Rattle.dshot_bank_spec.specs.Calls.{command_throttles_call, service_call}
+use Rattle.std.proofs.Common.{ap, ◌∙◌}
 use Rattle.dshot_bank_spec.specs.State.{Buffers}
+use Rattle.dshot_bank_spec.specs.Calls.{command_throttles_call, service_call}
 use Rattle.dshot_bank.specs.States.{present_of, masks_of}
 use Rattle.dshot_bank_bench.specs.Cycles as Spec
 use Rattle.dshot_bank_bench.specs.Cycles.{after, past}
@@ -19,10 +18,11 @@ returns c =
     let start : Buffers = record { first = a.first.now; second = a.second.now } in
     let end : Buffers = record { first = c.serve.new.first; second = c.serve.new.second } in
     let thrown = past (run_of a.self start) (command_throttles_call a.throttles n 10) in
-    let lent : List (Std.Option ℕ) → Spec.Run = λ m. after thrown (service_call n (replicate 4 true) (present_of m) (masks_of m) samples) in
+    let answers = c.answers.result in
+    let told = c.answers.ensures in
     c.interrupts.ensures end
-    ∙ ap (λ (r : Spec.Run). Spec.interrupts a.count r)
+    ∙ ap (λ (r : Spec.Run). Spec.interrupts a.setup.interrupts r)
       (c.serve.ensures
-      ∙ ap (λ (r : Spec.Run). after r (service_call n (replicate 4 true) (present_of (replicate 4 c.then_some.result)) (masks_of (replicate 4 c.then_some.result)) samples)) (c.throttle.ensures start)
-      ∙ ap (λ (m : Std.Option ℕ). lent (replicate 4 m)) c.then_some.ensures
-      ∙ served a.present a.mask n samples thrown)
+      ∙ ap (λ (r : Spec.Run). after r (service_call n answers.taken (present_of answers.masks) (masks_of answers.masks) samples)) (c.throttle.ensures start)
+      ∙ (λ j. after thrown (service_call n (told.0 j) (present_of (told.1 j)) (masks_of (told.1 j)) samples))
+      ∙ served a.setup.present a.setup.mask n samples thrown)
