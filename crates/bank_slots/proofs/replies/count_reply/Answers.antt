@@ -15,6 +15,6 @@ returns c =
     let a = c.args in
     let xs = a.state.now in
     let l = lane_from a.k (at xs) in
-    let counted = c.counting.ensures ∙ counts_of l c.of.ensures c.word_at.ensures c.word_at-2.ensures c.word_at-3.ensures in
+    let counted = c.counting.ensures ∙ counts_of l c.from.ensures c.word_at.ensures c.word_at-2.ensures c.word_at-3.ensures in
     c.put_lane.ensures
     ∙ ap (λ (v : LaneReply). write (lane_rows a.k v) xs) (counted-beside (reply_answer a.read) l (lane_reply_of c.counting.result) counted)
