@@ -1,6 +1,7 @@
 -- The four lanes: whether one took its buffer, and the marks of the first ones turned.
 -- Assumes nothing.
-use Rattle.std.proofs.Common.{◌≡◌, ℕ, zero, suc, ◌+◌, ◌<◌, ◌≤◌, false, not, List, length, get_or, set, refl, arith}
+use Rattle.std.proofs.Common.{◌≡◌, ℕ, zero, suc, ◌+◌, ◌≤◌, not, List, [], ◌∷◌, length, take, set, refl, arith}
+use Rattle.std.specs.List.{position}
 use Rattle.dshot_bank_spec.specs.Lanes.{each}
 use Rattle.bank_slots_spec.specs.Memory.{at}
 use Rattle.bank_slots_spec.specs.Places.{slots, IN_SECOND}
@@ -11,12 +12,13 @@ use Rattle.bank_slots_spec.specs.Arguments.{taken}
 use Rattle.bank_slots_spec.specs.Parts.{marks_turned}
 use Rattle.bank_slots_spec.proofs.SendMoves.{marks-turned}
 
-pub taken-at : (xs : List ℕ) (lane : ℕ) → lane < 4 → get_or (taken xs) lane false ≡ flag (at xs lane)
-taken-at xs zero h = refl
-taken-at xs (suc zero) h = refl
-taken-at xs (suc (suc zero)) h = refl
-taken-at xs (suc (suc (suc zero))) h = refl
-taken-at xs (suc (suc (suc (suc k)))) h = absurd (omega arith)
+-- the first lane that did not take its buffer
+pub first_refused_is : (xs : List ℕ) → 4 ≤ length xs → position (λ (n : ℕ). not (flag n)) (take 4 xs) ≡ position not (taken xs)
+first_refused_is [] h = absurd (omega arith)
+first_refused_is (a ∷ []) h = absurd (omega arith)
+first_refused_is (a ∷ b ∷ []) h = absurd (omega arith)
+first_refused_is (a ∷ b ∷ c ∷ []) h = absurd (omega arith)
+first_refused_is (a ∷ b ∷ c ∷ d ∷ xs) h = refl
 
 abbrev pub mark_turned : ℕ → List ℕ → List ℕ
 mark_turned lane xs = set xs (IN_SECOND + lane) (bit (not (flag (at xs (IN_SECOND + lane)))))

@@ -5,6 +5,7 @@ pub mod Motors
 pub mod NewBank
 pub mod Parts
 pub mod Sent
+pub mod Tags
 pub mod Told
 pub mod Unfit
 pub mod View

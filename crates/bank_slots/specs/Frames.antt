@@ -1,7 +1,6 @@
 -- What the private functions that send a frame set return, in the terms of the definitions. Only private functions cite this.
 -- Assumes nothing.
-use Rattle.std.specs.Prelude.{ℕ, ◌+◌, ◌-◌, ◌*◌, ◌≡◌, ◌<◌, Bool, false, not, List, [], ◌∷◌, ◌++◌, length, take, replicate, get_or, Option, Some, None}
-use Rattle.std.proofs.Math.Option.{none, some}
+use Rattle.std.specs.Prelude.{ℕ, ◌+◌, ◌-◌, ◌*◌, ◌≡◌, Bool, false, not, List, [], ◌∷◌, ◌++◌, length, take, replicate, get_or}
 use Rattle.std.proofs.Math.Option as Spec
 use Rattle.dshot.specs.Answers.{lane_of}
 use Rattle.dshot_bank_spec.specs.State.{Core}
@@ -10,16 +9,6 @@ use Rattle.dshot_bank_spec.specs.FrameSet.{frame_set}
 use Rattle.bank_slots_spec.specs.Load.{four}
 use Rattle.bank_slots_spec.specs.Store.{bit}
 use Rattle.bank_slots.specs.declared.send.FrameSet.{FrameSet}
-
--- the Rust's `Option<(DshotMotor, u16)>`
-abbrev pub motor_command_of : Option (ℕ × ℕ) → Spec.Option MotorCommand
-motor_command_of None = none
-motor_command_of (Some (m, v)) = some (record { motor = m; command = v })
-
--- The command is for one of the four lanes.
-abbrev pub OnLane : Option (ℕ × ℕ) → Type 0
-OnLane None = Unit
-OnLane (Some (m, v)) = m < 4
 
 -- The code and the definition have the same values and telemetry lane.
 pub record Sets (r : FrameSet) (c : Core) (m : Spec.Option MotorCommand) : Type 0 where

@@ -28,7 +28,7 @@ use crate::{
     RUN, SLOTS, VALUES,
 };
 use dshot::throttle_to_dshot;
-use dshot_bank::{DSHOT_COMMAND_MAX, LANES};
+use dshot_bank::{DSHOT_COMMAND_MAX, DshotMotor, LANES};
 use dshot_reply::DshotReplyError;
 use dshot_reply::refusals::Refusal;
 
@@ -76,6 +76,7 @@ pub fn command_stop(bank: &mut [u16]) -> Result<(), Refusal>
     Ok(())
 }
 
+// Whether one of the values is above this. The function of `dshot_bank` takes them by value: throttles then cost 84 instructions, and here 67.
 pub(crate) fn any_above(values: &[u16; LANES], most: u16) -> bool
     ensures { result ≡ list_any (nat_lt most) values.now }
 {
@@ -146,9 +147,7 @@ pub fn command_special(bank: &mut [u16], motor: usize, sequence: &[u16]) -> Resu
 {
     let state = bank.as_mut_array::<SLOTS>().ok_or(Refusal::WrongLength)?;
     let sequence = sequence.as_array::<4>().ok_or(Refusal::WrongLength)?;
-    if motor >= LANES {
-        return Err(Refusal::NoSuchMotor);
-    }
+    let motor = DshotMotor::from_index(motor).ok_or(Refusal::NoSuchMotor)?;
     if flag(state[FAULTED]) {
         return Err(Refusal::BankFaulted);
     }
@@ -158,7 +157,7 @@ pub fn command_special(bank: &mut [u16], motor: usize, sequence: &[u16]) -> Resu
     if state[RUN] != 0 {
         return Err(Refusal::CommandPending);
     }
-    put_run(state, motor, run_from(sequence, 0));
+    put_run(state, motor, run_from(sequence));
     Ok(())
 }
 
@@ -171,9 +170,7 @@ pub fn request_telemetry(bank: &mut [u16], motor: usize) -> Result<(), Refusal>
     ensures called { (b : Buffers) → Called (fit bank.old true) (Call.request_telemetry_call motor) b bank.old bank.new (status_number result) }
 {
     let state = bank.as_mut_array::<SLOTS>().ok_or(Refusal::WrongLength)?;
-    if motor >= LANES {
-        return Err(Refusal::NoSuchMotor);
-    }
+    let motor = DshotMotor::from_index(motor).ok_or(Refusal::NoSuchMotor)?;
     if flag(state[FAULTED]) {
         return Err(Refusal::BankFaulted);
     }
@@ -199,7 +196,7 @@ fn choice_slots(slot: u16) -> [u16; 2]
     ensures { result ≡ motor_slots (choice slot) }
 {
     match motor_in(slot) {
-        Some(lane) => [1, lane as u16],
+        Some(motor) => [1, motor as u16],
         None => [0, 0],
     }
 }

@@ -29,10 +29,6 @@ mod send;
 // The service of a bank.
 pub mod service;
 
-use dshot::COMPARE_DMA_SLOTS;
-use dshot_bank::LANES;
-use dshot_reply::REPLY_WINDOW_SAMPLES;
-
 // The slots of a state.
 pub const SLOTS: usize = 97;
 
@@ -44,11 +40,6 @@ pub const SERVICE_SLOTS: usize = 15;
 
 // The slots of an interrupt's answer: the event, the number of orders, and seven for the orders.
 pub const INTERRUPT_SLOTS: usize = 9;
-
-// The slots of a lent buffer, and of the captures.
-pub(crate) const BUFFER_SLOTS: usize = COMPARE_DMA_SLOTS * LANES;
-
-pub(crate) const CAPTURE_SLOTS: usize = REPLY_WINDOW_SAMPLES * LANES;
 
 // The slots of the counts, of the replies' counts, and of the replies.
 pub const STATS_SLOTS: usize = 22;

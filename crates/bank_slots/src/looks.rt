@@ -24,11 +24,11 @@ use crate::memory::{flag, put_word, word_at};
 use crate::replies::error_slot;
 use crate::steps::values_at;
 use crate::{
-    BIDIRECTIONAL, BUFFER_SLOTS, FAULTED, FRAMES_STARTED, IN_SECOND, PER_LANE, REPLIES,
-    REPLIES_HELD, REPLIES_SLOTS, REPLY_STATS_SLOTS, RUN, SLOTS, STATS_SLOTS,
+    BIDIRECTIONAL, FAULTED, FRAMES_STARTED, IN_SECOND, PER_LANE, REPLIES, REPLIES_HELD,
+    REPLIES_SLOTS, REPLY_STATS_SLOTS, RUN, SLOTS, STATS_SLOTS,
 };
 use dshot::COMPARE_DMA_SLOTS;
-use dshot_bank::LANES;
+use dshot_bank::{LANES, Slots};
 use dshot_reply::kind::{kind_number, reading_number};
 use dshot_reply::refusals::Refusal;
 use dshot_reply::{DshotReply, DshotReplyError};
@@ -171,22 +171,12 @@ fn put_reply(out: &mut [u16; REPLIES_SLOTS], k: usize, read: Result<DshotReply, 
     }
 }
 
-// What is handed out of the lane whose slots begin at `from`. If no replies are held, it is no reply, so that no lane reads as a rotor at rest.
-fn hand_out(
-    state: &[u16; SLOTS],
-    held: bool,
-    from: usize,
-    out: &mut [u16; REPLIES_SLOTS],
-    to: usize,
-)
-    requires { (from + 2 < slots) × (to + 3 < 17) }
-    ensures { out.new ≡ write (slot_rows to (reply_slots (if held then reply (at state.now from) (word (from + 1) (at state.now)) else refused no_reply))) out.old }
+// The reply in the slots of a lane, from `k` on.
+fn reply_at(state: &[u16; SLOTS], k: usize) -> Result<DshotReply, DshotReplyError>
+    requires { k + 2 < slots }
+    ensures { reply_answer result ≡ reply (at state.now k) (word (k + 1) (at state.now)) }
 {
-    if held {
-        put_reply(out, to, stored(state[from], word_at(state, from + 1)));
-        return;
-    }
-    put_reply(out, to, Err(DshotReplyError::NoReply));
+    stored(state[k], word_at(state, k + 1))
 }
 
 // The replies decoded since the last call, once: whether some are held, and four slots a lane.
@@ -201,7 +191,13 @@ pub fn take_replies(bank: &mut [u16], out: &mut [u16]) -> Result<(), Refusal>
     let held = flag(state[REPLIES_HELD]);
     out[0] = u16::from(held);
     for lane in 0..LANES {
-        hand_out(state, held, REPLIES + PER_LANE * lane, out, 1 + 4 * lane);
+        // If no replies are held, each lane has no reply, so that none reads as a rotor at rest.
+        let read = if held {
+            reply_at(state, REPLIES + PER_LANE * lane)
+        } else {
+            Err(DshotReplyError::NoReply)
+        };
+        put_reply(out, 1 + 4 * lane, read);
     }
     state[REPLIES_HELD] = 0;
     Ok(())
@@ -224,12 +220,8 @@ pub fn sending(
     let out = out
         .as_mut_array::<COMPARE_DMA_SLOTS>()
         .ok_or(Refusal::WrongLength)?;
-    let first = first
-        .as_array::<BUFFER_SLOTS>()
-        .ok_or(Refusal::WrongLength)?;
-    let second = second
-        .as_array::<BUFFER_SLOTS>()
-        .ok_or(Refusal::WrongLength)?;
+    let first: &Slots = first.as_array().ok_or(Refusal::WrongLength)?;
+    let second: &Slots = second.as_array().ok_or(Refusal::WrongLength)?;
     if motor >= LANES {
         return Err(Refusal::NoSuchMotor);
     }

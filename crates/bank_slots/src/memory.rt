@@ -1,14 +1,14 @@
 // Added: numbers of 32 and 64 bits in slots of 16, the lowest bits first.
 
 ghost use Rattle.std.specs.Prelude.{◌≡◌, ◌+◌, ◌*◌, ◌<◌, length};
-ghost use Rattle.dshot.specs.Answers.{lane_of};
-ghost use Rattle.dshot_bank_spec.specs.FrameSet.{as_lane};
 ghost use Rattle.dshot_bank_spec.specs.Replies.{wrapping_add};
 ghost use Rattle.bank_slots_spec.specs.Memory.{at, word, long, write, word_rows, long_rows};
 ghost use Rattle.bank_slots_spec.specs.Places.{slots};
 ghost use Rattle.bank_slots_spec.specs.Load as Load;
+ghost use Rattle.dshot_bank.specs.States.{choice_of};
 
 use crate::SLOTS;
+use dshot_bank::DshotMotor;
 
 // The flag in a slot: 0 means no, any other number means yes.
 pub(crate) fn flag(slot: u16) -> bool
@@ -18,13 +18,11 @@ pub(crate) fn flag(slot: u16) -> bool
 }
 
 // The motor in a slot: 0 means none, and a lane is one more.
-pub(crate) fn motor_in(slot: u16) -> Option<usize>
-    ensures { lane_of result ≡ as_lane (Load.choice slot) }
+pub(crate) fn motor_in(slot: u16) -> Option<DshotMotor>
+    ensures { choice_of result ≡ Load.choice slot }
 {
-    if slot == 0 {
-        return None;
-    }
-    Some(((slot - 1) % 4) as usize)
+    let lane = slot.checked_sub(1)? % 4;
+    DshotMotor::from_index(usize::from(lane))
 }
 
 fn joined(low: u16, high: u16) -> u32

@@ -2,28 +2,30 @@
 
 ghost use Rattle.std.specs.Prelude.{◌≡◌, ◌+◌, ◌-◌, ◌<◌, ◌≤◌, ◌∷◌, ◌++◌, length, replicate};
 
+use dshot_bank::orders::OrderKind;
+
 // The kind of a stored refusal is this + its number. It is above the kinds of readings.
 pub(crate) const REFUSED: u16 = 16;
 
-// The orders: 8 x the kind. If the order is for one lane, the lane is added. They are the interface to C, so each number stands here.
-pub(crate) const EXCHANGE_BUFFER: u16 = 8 * 1;
+// The orders: 8 x the kind. If the order is for one lane, the lane is added.
+pub(crate) const EXCHANGE_BUFFER: u16 = 8 * OrderKind::ExchangeBuffer as u16;
 
 // Added to an order to exchange if it gives the lane the second buffer.
 pub(crate) const SECOND: u16 = 4;
 
-const START_DMA: u16 = 8 * 2;
+const START_DMA: u16 = 8 * OrderKind::StartDma as u16;
 
-const START_FRAME: u16 = 8 * 3;
+const START_FRAME: u16 = 8 * OrderKind::StartFrame as u16;
 
-pub(crate) const STOP_FRAME: u16 = 8 * 4;
+pub(crate) const STOP_FRAME: u16 = 8 * OrderKind::StopFrame as u16;
 
-const FORCE_OUTPUTS_LOW: u16 = 8 * 5;
+const FORCE_OUTPUTS_LOW: u16 = 8 * OrderKind::ForceOutputsLow as u16;
 
-pub(crate) const PAUSE_AND_CLEAR: u16 = 8 * 6;
+pub(crate) const PAUSE_AND_CLEAR: u16 = 8 * OrderKind::PauseAndClear as u16;
 
-pub(crate) const BEGIN_RECEIVE: u16 = 8 * 7;
+pub(crate) const BEGIN_RECEIVE: u16 = 8 * OrderKind::BeginReceive as u16;
 
-pub(crate) const END_RECEIVE: u16 = 8 * 8;
+pub(crate) const END_RECEIVE: u16 = 8 * OrderKind::EndReceive as u16;
 
 // The orders of a frame set that starts, behind its exchanges. All DMA streams are enabled before any timer DMA request is opened.
 pub(crate) const STARTED_ORDERS: [u16; 5] = [

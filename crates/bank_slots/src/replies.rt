@@ -18,8 +18,8 @@ ghost use Rattle.bank_slots_spec.specs.Parts.{with_replies, windows_read};
 
 use crate::memory::{flag, put_word, word_at};
 use crate::numbers::REFUSED;
-use crate::{CAPTURE_SLOTS, LANES_SLOTS, PER_LANE, REPLIES, REPLIES_HELD, REPLIES_WAITING, SLOTS};
-use dshot_bank::{LANES, LaneReply, StoredReply};
+use crate::{LANES_SLOTS, PER_LANE, REPLIES, REPLIES_HELD, REPLIES_WAITING, SLOTS};
+use dshot_bank::{LANES, LaneReply, Samples, StoredReply};
 use dshot_reply::kind::{kind_number, reading_number};
 use dshot_reply::refusals::Refusal;
 use dshot_reply::{DshotReply, DshotReplyError, REPLY_WINDOW_SAMPLES};
@@ -92,7 +92,7 @@ fn decode_lane(
     k: usize,
     lane: usize,
     lanes: &[u16; LANES_SLOTS],
-    captures: &[u16; CAPTURE_SLOTS],
+    captures: &Samples,
 )
     requires { (k + 8 < slots) × (lane < 4) }
     ensures { state.new ≡ write (lane_rows k (count_reply (read_window (Load.flag (slice_index lanes.now (4 + lane))) (window captures.now lane) (slice_index lanes.now (8 + lane))) (lane_from k (at state.old)))) state.old }
@@ -107,11 +107,7 @@ fn decode_lane(
     count_reply(state, k, read);
 }
 
-fn decode_replies(
-    state: &mut [u16; SLOTS],
-    lanes: &[u16; LANES_SLOTS],
-    captures: &[u16; CAPTURE_SLOTS],
-)
+fn decode_replies(state: &mut [u16; SLOTS], lanes: &[u16; LANES_SLOTS], captures: &Samples)
     ensures { Moves (λ (b : Bank). with_replies (decode_replies 4 (present lanes.now) (masks lanes.now) captures.now b.replies) b) state.old state.new }
 {
     for lane in 0..LANES {
@@ -120,11 +116,7 @@ fn decode_replies(
 }
 
 // Decodes the last receive window, if one waits.
-pub(crate) fn read_replies(
-    state: &mut [u16; SLOTS],
-    lanes: &[u16; LANES_SLOTS],
-    captures: &[u16; CAPTURE_SLOTS],
-)
+pub(crate) fn read_replies(state: &mut [u16; SLOTS], lanes: &[u16; LANES_SLOTS], captures: &Samples)
     ensures { Moves (windows_read (present lanes.now) (masks lanes.now) captures.now) state.old state.new }
 {
     if !flag(state[REPLIES_WAITING]) {

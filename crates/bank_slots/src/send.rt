@@ -4,41 +4,39 @@
 //
 // Sending a frame set.
 
-ghost use Rattle.std.specs.Prelude.{◌≡◌, ◌+◌, ◌*◌, ◌<◌, ◌≤◌, Bool, not, [], replicate, slice_set, if◌then◌else◌};
-ghost use Rattle.dshot.specs.Answers.{kind_of, timing_of};
-ghost use Rattle.dshot_bank_spec.specs.Lanes.{position};
+ghost use Rattle.std.specs.Prelude.{◌≡◌, ℕ, ◌<◌, ◌≤◌, not, [], take};
+ghost use Rattle.std.specs.List.{position};
+ghost use Rattle.dshot.specs.Answers.{timing_of};
 ghost use Rattle.dshot_bank_spec.specs.State.{Core, Bank, Buffers};
-ghost use Rattle.dshot_bank_spec.specs.Commands.{next_of_run, next_command_frame};
-ghost use Rattle.dshot_bank_spec.specs.With.{with_command_sequence};
-ghost use Rattle.dshot_bank_spec.specs.FrameSet.{kind_sent};
+ghost use Rattle.dshot_bank_spec.specs.Commands.{next_command_frame};
 ghost use Rattle.dshot_bank_spec.specs.Send.{exchange_refused, frame_started};
 ghost use Rattle.dshot_bank_spec.specs.Service as Spec;
-ghost use Rattle.bank_slots_spec.specs.Memory.{at};
-ghost use Rattle.bank_slots_spec.specs.Places as Places;
 ghost use Rattle.bank_slots_spec.specs.Load.{load};
-ghost use Rattle.bank_slots_spec.specs.Store as Store;
+ghost use Rattle.bank_slots_spec.specs.Load as Load;
 ghost use Rattle.bank_slots_spec.specs.Moves.{Moves, on_core};
 ghost use Rattle.bank_slots_spec.specs.Handles.{Serves};
 ghost use Rattle.bank_slots_spec.specs.Arguments.{taken};
 ghost use Rattle.bank_slots_spec.specs.Parts.{run_stepped, marks_turned, carried_by, request_carried, in_flight};
-ghost use Rattle.bank_slots.specs.Frames.{motor_command_of, OnLane, Sets, exchange_codes, refused_slots};
+ghost use Rattle.dshot_bank.specs.Sends.{motor_command_of};
+ghost use Rattle.bank_slots.specs.Frames.{Sets, exchange_codes, refused_slots};
 
 use crate::commands::any_above;
 use crate::memory::{bump, flag, motor_in, put_long, put_word};
 use crate::numbers::{EXCHANGE_BUFFER, LATCH_ORDERS, SECOND, STARTED_ORDERS, tell};
-use crate::steps::{clear_run, latch_fault, put_run, run_from, values_at};
+use crate::steps::{clear_run, latch_fault, put_run, run_at, values_at};
 use crate::{
-    BIDIRECTIONAL, BUFFER_SLOTS, BUSY, COMPLETION_MASK, FRAMES_STARTED, IN_SECOND, LANES_SLOTS,
-    REQUEST, REQUEST_SENT, RUN, SERVICE_SLOTS, SLOTS, STARTED,
+    BIDIRECTIONAL, BUSY, COMPLETION_MASK, FRAMES_STARTED, IN_SECOND, LANES_SLOTS, REQUEST,
+    REQUEST_SENT, RUN, SERVICE_SLOTS, SLOTS, STARTED,
 };
-use dshot::{ChecksumKind, DshotTiming, MotorValues};
-use dshot_bank::LANES;
+use dshot::{ChecksumKind, DshotTiming, MotorValues, packets_of_kind};
 use dshot_bank::replies::LaneFlags;
-use dshot_bank::send::encode_lanes;
-use dshot_bank::service::DshotServiceEvent;
+use dshot_bank::send::{encode_lanes, one_lane};
+use dshot_bank::service::{DshotServiceEvent, sent_event};
+use dshot_bank::{DshotMotor, LANES, Slots};
+use std::array;
 
-// The next special-command frame: its lane and its command.
-pub(crate) type FrameCommand = Option<(usize, u16)>;
+// The next special-command frame: its motor and its command.
+pub(crate) type FrameCommand = Option<(DshotMotor, u16)>;
 
 // What is sent to each lane.
 #[derive(Clone, Copy)]
@@ -49,30 +47,8 @@ pub(crate) struct FrameSet {
 
 // ---- the run of commands
 
-// Takes the next command of a run, and steps the run. A spent run is cleared.
-fn step_run(state: &mut [u16; SLOTS]) -> FrameCommand
-    requires { at state.old Places.RUN ≡ 0 → ⊥ }
-    ensures on_lane { OnLane result }
-    ensures result_value { motor_command_of result ≡ (next_of_run (load state.old).core.command_sequence).command }
-    ensures moves { Moves (on_core (λ (c : Core). with_command_sequence (next_of_run c.command_sequence).left c)) state.old state.new }
-{
-    let motor = ((state[RUN] - 1) % 4) as usize;
-    let mut run = run_from(state, RUN + 1);
-    match run.next_value() {
-        Some(command) => {
-            put_run(state, motor, run);
-            Some((motor, command))
-        }
-        None => {
-            clear_run(state);
-            None
-        }
-    }
-}
-
-// The next special-command frame. If there is none, or a throttle demand has cancelled it, the answer is none.
+// The next special-command frame. If there is none, or a throttle demand has cancelled it, the answer is none. A spent run is cleared.
 fn next_command_frame(state: &mut [u16; SLOTS]) -> FrameCommand
-    ensures on_lane { OnLane result }
     ensures result_value { motor_command_of result ≡ (next_command_frame (load state.old).core).command }
     ensures moves { Moves (on_core run_stepped) state.old state.new }
 {
@@ -80,48 +56,31 @@ fn next_command_frame(state: &mut [u16; SLOTS]) -> FrameCommand
         clear_run(state);
         return None;
     }
-    if state[RUN] == 0 {
+    let motor = motor_in(state[RUN])?;
+    let mut run = run_at(state);
+    let Some(command) = run.next_value() else {
+        clear_run(state);
         return None;
-    }
-    step_run(state)
+    };
+    put_run(state, motor, run);
+    Some((motor, command))
 }
 
 // ---- what is sent
 
-// The values with one lane's command.
-fn one_lane(motor: usize, command: u16) -> MotorValues
-    requires { motor < 4 }
-    ensures { result ≡ slice_set (replicate 4 0) motor command }
-{
-    let mut values = [0; LANES];
-    values[motor] = command;
-    values
-}
-
 // A special command needs the telemetry bit on its own lane, so a pending telemetry request waits for the next ordinary frame.
 fn frame_set(state: &[u16; SLOTS], command: FrameCommand) -> FrameSet
-    requires { OnLane command }
     ensures { Sets result (load state.now).core (motor_command_of command) }
 {
     match command {
         Some((motor, value)) => FrameSet {
             values: one_lane(motor, value),
-            telemetry_lane: Some(motor),
+            telemetry_lane: Some(motor.index()),
         },
         None => FrameSet {
             values: values_at(state),
-            telemetry_lane: motor_in(state[REQUEST]),
+            telemetry_lane: motor_in(state[REQUEST]).map(|motor| motor.index()),
         },
-    }
-}
-
-fn kind(state: &[u16; SLOTS]) -> ChecksumKind
-    ensures { kind_of result ≡ kind_sent (load state.now).core }
-{
-    if flag(state[BIDIRECTIONAL]) {
-        ChecksumKind::Inverted
-    } else {
-        ChecksumKind::Plain
     }
 }
 
@@ -149,16 +108,11 @@ fn marks_at(state: &[u16; SLOTS]) -> LaneFlags
 
 // ---- the exchange
 
-// How many lanes took their buffer before the first lane that did not.
-fn lanes_taken(lanes: &[u16; LANES_SLOTS]) -> usize
-    ensures { result ≡ position not (taken lanes.now) }
+// The first lane that did not take its buffer.
+fn first_refused(lanes: &[u16; LANES_SLOTS]) -> Option<usize>
+    ensures { result ≡ position (λ (taken : ℕ). not (Load.flag taken)) (take 4 lanes.now) }
 {
-    for lane in 0..LANES {
-        if !flag(lanes[lane]) {
-            return lane;
-        }
-    }
-    LANES
+    lanes[..LANES].iter().position(|taken| !flag(*taken))
 }
 
 // Turns the marks of the first lanes: what they sent is now spare, and their spare is sent.
@@ -181,26 +135,19 @@ fn exchange_refused(state: &mut [u16; SLOTS], lane: usize)
     latch_fault(state, false);
 }
 
-// The order to give a lane its spare. If the lane sends from the first buffer, its spare is the second.
-fn exchange(lane: u16, in_second: bool) -> u16
-    requires { lane < 4 }
-    ensures { result ≡ 8 * 1 + lane + 4 * Store.bit (not in_second) }
+// The orders to give each lane its spare. If a lane sends from the first buffer, its spare is the second.
+#[tactic(auto, unfolding(bank_slots_spec::specs::Load::load))]
+fn exchanges(state: &[u16; SLOTS]) -> [u16; LANES]
+    ensures { result ≡ exchange_codes (load state.now).core.frame.in_second }
 {
-    if in_second {
-        return EXCHANGE_BUFFER + lane;
-    }
-    EXCHANGE_BUFFER + lane + SECOND
-}
-
-fn exchanges(in_second: LaneFlags) -> [u16; LANES]
-    ensures { result ≡ exchange_codes in_second }
-{
-    [
-        exchange(0, in_second[0]),
-        exchange(1, in_second[1]),
-        exchange(2, in_second[2]),
-        exchange(3, in_second[3]),
-    ]
+    array::from_fn(|lane| {
+        let order = EXCHANGE_BUFFER + lane as u16;
+        if flag(state[IN_SECOND + lane]) {
+            order
+        } else {
+            order + SECOND
+        }
+    })
 }
 
 // Puts a frame set in flight. The request that it carries is handled apart.
@@ -234,16 +181,6 @@ fn frame_started(state: &mut [u16; SLOTS], now_ms: u64, ordinary: bool)
 
 // ---- the answer of a service
 
-fn sent_event(lease_expired: bool) -> u16
-    ensures { result ≡ (if lease_expired then 2 else 0) }
-{
-    if lease_expired {
-        DshotServiceEvent::LeaseExpired as u16
-    } else {
-        DshotServiceEvent::FrameStarted as u16
-    }
-}
-
 // The answer if a lane refuses its buffer: the exchanges up to that lane, and the orders of a latched fault. Each number of exchanges has a line of its
 // own. Otherwise the archive would need `memcpy`.
 fn tell_refused(out: &mut [u16; SERVICE_SLOTS], lane: usize, exchanges: &[u16; LANES])
@@ -264,8 +201,8 @@ pub(crate) fn send(
     now_ms: u64,
     lease_expired: bool,
     lanes: &[u16; LANES_SLOTS],
-    first: &mut [u16; BUFFER_SLOTS],
-    second: &mut [u16; BUFFER_SLOTS],
+    first: &mut Slots,
+    second: &mut Slots,
     out: &mut [u16; SERVICE_SLOTS],
 )
     ensures { Serves (λ (k : Bank) (b : Buffers). Spec.sending 4 now_ms (taken lanes.now) [] [] [] [] b lease_expired k.core k.replies) (record { first = first.entry.now; second = second.old }) (record { first = first.exit.now; second = second.new }) state.old state.new out.new }
@@ -273,20 +210,22 @@ pub(crate) fn send(
     let next = next_command_frame(state);
     // An ordinary frame set carries the pending telemetry request.
     let ordinary = next.is_none();
-    let next_set = frame_set(state, next);
-    let values = next_set.values;
-    let lane = next_set.telemetry_lane;
-    let packets = dshot::packets_of_kind(kind(state), values, lane);
-    let marks = marks_at(state);
-    let duties = encode_lanes(first, second, marks, packets, timing_at(state));
-    let orders = exchanges(marks);
-    let refusing = lanes_taken(lanes);
-    if refusing < LANES {
-        exchange_refused(state, refusing);
-        tell_refused(out, refusing, &orders);
+    let set = frame_set(state, next);
+    let kind = ChecksumKind::sent(flag(state[BIDIRECTIONAL]));
+    let packets = packets_of_kind(kind, set.values, set.telemetry_lane);
+    let duties = encode_lanes(first, second, marks_at(state), packets, timing_at(state));
+    if let Some(lane) = first_refused(lanes) {
+        tell_refused(out, lane, &exchanges(state));
+        exchange_refused(state, lane);
         return;
     }
+    let event = sent_event(true, lease_expired);
+    tell(out, event as u16, &exchanges(state), &STARTED_ORDERS);
+    // Slot by slot. `copy_from_slice` tests whether the two parts overlap.
+    let [a, b, c, d] = duties;
+    out[11] = a;
+    out[12] = b;
+    out[13] = c;
+    out[14] = d;
     frame_started(state, now_ms, ordinary);
-    tell(out, sent_event(lease_expired), &orders, &STARTED_ORDERS);
-    out[11..].copy_from_slice(&duties);
 }

@@ -4,7 +4,7 @@
 //
 // The service of a bank: the lease, the frame in flight, the replies that wait, and the next frame set.
 
-ghost use Rattle.std.specs.Prelude.{◌≡◌, Bool, false, ◌∷◌, replicate, if◌then◌else◌};
+ghost use Rattle.std.specs.Prelude.{◌≡◌, Bool, true, false, ◌∷◌, replicate, if◌then◌else◌};
 ghost use Rattle.dshot_reply.specs.Refusals.{status_number};
 ghost use Rattle.dshot_bank_spec.specs.State.{Core, Buffers};
 ghost use Rattle.dshot_bank_spec.specs.Send.{latch_fault};
@@ -25,11 +25,11 @@ use crate::replies::read_replies;
 use crate::send::send;
 use crate::steps::{latch_fault, stop};
 use crate::{
-    BUFFER_SLOTS, BUSY, BUSY_SKIPS, CAPTURE_SLOTS, FAULTED, FRAME_TIMEOUTS, LANES_SLOTS,
-    LEASE_EXPIRIES, LEASE_OVER, LEASE_STARTED, REQUEST_SENT, SERVICE_SLOTS, SLOTS, STARTED,
+    BUSY, BUSY_SKIPS, FAULTED, FRAME_TIMEOUTS, LANES_SLOTS, LEASE_EXPIRIES, LEASE_OVER,
+    LEASE_STARTED, REQUEST_SENT, SERVICE_SLOTS, SLOTS, STARTED,
 };
-use dshot_bank::DSHOT_FRAME_TIMEOUT_MS;
 use dshot_bank::service::DshotServiceEvent;
+use dshot_bank::{DSHOT_FRAME_TIMEOUT_MS, Samples, Slots};
 use dshot_reply::refusals::Refusal;
 
 fn expired(state: &[u16; SLOTS], now_ms: u64) -> bool
@@ -42,12 +42,9 @@ fn expired(state: &[u16; SLOTS], now_ms: u64) -> bool
     now_ms.wrapping_sub(long_at(state, LEASE_STARTED)) >= lease
 }
 
-fn end_lease(state: &mut [u16; SLOTS], expired: bool)
-    ensures { Moves (on_core (expire_lease 4 expired)) state.old state.new }
+fn end_lease(state: &mut [u16; SLOTS])
+    ensures { Moves (on_core (expire_lease 4 true)) state.old state.new }
 {
-    if !expired {
-        return;
-    }
     stop(state);
     bump(state, LEASE_EXPIRIES);
 }
@@ -65,18 +62,11 @@ fn time_out(state: &mut [u16; SLOTS])
     latch_fault(state, false);
 }
 
-// The number of an event in the answer's slots.
-fn number(event: DshotServiceEvent) -> u16
-    ensures { result ≡ service_event (service_event_of event) }
-{
-    event as u16
-}
-
 // An event without orders.
 fn tell_event(out: &mut [u16; SERVICE_SLOTS], event: DshotServiceEvent)
     ensures { out.new ≡ service_event (service_event_of event) ∷ replicate 14 0 }
 {
-    tell(out, number(event), &[], &[]);
+    tell(out, event as u16, &[], &[]);
 }
 
 // A frame is in flight.
@@ -105,9 +95,9 @@ fn serve(
     state: &mut [u16; SLOTS],
     now_ms: u64,
     lanes: &[u16; LANES_SLOTS],
-    first: &mut [u16; BUFFER_SLOTS],
-    second: &mut [u16; BUFFER_SLOTS],
-    captures: &[u16; CAPTURE_SLOTS],
+    first: &mut Slots,
+    second: &mut Slots,
+    captures: &Samples,
     out: &mut [u16; SERVICE_SLOTS],
 )
     ensures { Serves (Spec.service 4 now_ms (taken lanes.now) (present lanes.now) (masks lanes.now) captures.now) (record { first = first.entry.now; second = second.old }) (record { first = first.exit.now; second = second.new }) state.old state.new out.new }
@@ -118,7 +108,9 @@ fn serve(
         return;
     }
     let lease_expired = expired(state, now_ms);
-    end_lease(state, lease_expired);
+    if lease_expired {
+        end_lease(state);
+    }
     if flag(state[BUSY]) {
         serve_busy(state, now_ms, lease_expired, out);
         return;
@@ -147,15 +139,9 @@ pub fn service(
     let out = out
         .as_mut_array::<SERVICE_SLOTS>()
         .ok_or(Refusal::WrongLength)?;
-    let first = first
-        .as_mut_array::<BUFFER_SLOTS>()
-        .ok_or(Refusal::WrongLength)?;
-    let second = second
-        .as_mut_array::<BUFFER_SLOTS>()
-        .ok_or(Refusal::WrongLength)?;
-    let captures = captures
-        .as_array::<CAPTURE_SLOTS>()
-        .ok_or(Refusal::WrongLength)?;
+    let first = first.as_mut_array().ok_or(Refusal::WrongLength)?;
+    let second = second.as_mut_array().ok_or(Refusal::WrongLength)?;
+    let captures = captures.as_array().ok_or(Refusal::WrongLength)?;
     serve(state, now_ms, lanes, first, second, captures, out);
     Ok(())
 }

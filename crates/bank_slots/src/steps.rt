@@ -3,16 +3,18 @@
 //
 // The steps on a bank's state that several calls share: a stop, a run put or cleared, and a latched fault.
 
-ghost use Rattle.std.specs.Prelude.{◌≡◌, ◌+◌, ◌<◌, length};
+ghost use Rattle.std.specs.Prelude.{◌≡◌, ◌+◌};
 ghost use Rattle.std.proofs.Math.Option.{none};
 ghost use Rattle.dshot.specs.Answers.{run_of};
 ghost use Rattle.dshot_bank_spec.specs.Commands.{command_stop};
 ghost use Rattle.dshot_bank_spec.specs.With.{with_command_sequence};
 ghost use Rattle.dshot_bank_spec.specs.Send.{latch_fault};
 ghost use Rattle.bank_slots_spec.specs.Memory.{at};
+ghost use Rattle.bank_slots_spec.specs.Places as Places;
 ghost use Rattle.bank_slots_spec.specs.Load.{load, run_from};
 ghost use Rattle.bank_slots_spec.specs.Moves.{Moves, on_core};
 ghost use Rattle.bank_slots_spec.specs.Parts.{fault_counted, flags_latched, requests_cleared, queued};
+ghost use Rattle.dshot_bank.specs.States.{motor_of};
 
 use crate::memory::bump;
 use crate::{
@@ -20,6 +22,7 @@ use crate::{
     SLOTS, SPURIOUS, VALUES,
 };
 use dshot::{DshotCommandSequence, MotorValues};
+use dshot_bank::DshotMotor;
 
 pub(crate) fn values_at(state: &[u16; SLOTS]) -> MotorValues
     ensures { result ≡ (load state.now).core.demand.requested_values }
@@ -38,27 +41,37 @@ pub(crate) fn clear_run(state: &mut [u16; SLOTS])
     state[RUN..BUSY].fill(0);
 }
 
-// The run in the four slots from `k` on, of an argument or of the state. An index above 255 is spent, as 255 is. Only the low byte of the last slot
-// counts.
-pub(crate) fn run_from(run: &[u16], k: usize) -> DshotCommandSequence
-    requires { k + 3 < length run.now }
-    ensures { run_of result ≡ run_from k (at run.now) }
+// The run in four slots, of an argument or of the state. An index above 255 is spent, as 255 is. Only the low byte of the last slot counts.
+pub(crate) fn run_from(run: &[u16; 4]) -> DshotCommandSequence
+    ensures { run_of result ≡ run_from 0 (at run.now) }
 {
+    let [first, second, index, repeats] = *run;
     DshotCommandSequence {
-        commands: [run[k], run[k + 1]],
-        index: run[k + 2].min(255) as u8,
-        repeats_left: (run[k + 3] % 256) as u8,
+        commands: [first, second],
+        index: index.min(255) as u8,
+        repeats_left: (repeats % 256) as u8,
     }
 }
 
-pub(crate) fn put_run(state: &mut [u16; SLOTS], motor: usize, run: DshotCommandSequence)
-    requires { motor < 4 }
-    ensures { Moves (on_core (queued motor (run_of run))) state.old state.new }
+// The run in the state's slots.
+pub(crate) fn run_at(state: &[u16; SLOTS]) -> DshotCommandSequence
+    ensures { run_of result ≡ run_from (Places.RUN + 1) (at state.now) }
 {
-    let commands = run.commands;
+    run_from(&[
+        state[RUN + 1],
+        state[RUN + 2],
+        state[RUN + 3],
+        state[RUN + 4],
+    ])
+}
+
+pub(crate) fn put_run(state: &mut [u16; SLOTS], motor: DshotMotor, run: DshotCommandSequence)
+    ensures { Moves (on_core (queued (motor_of motor) (run_of run))) state.old state.new }
+{
+    let [first, second] = run.commands;
     state[RUN] = motor as u16 + 1;
-    state[RUN + 1] = commands[0];
-    state[RUN + 2] = commands[1];
+    state[RUN + 1] = first;
+    state[RUN + 2] = second;
     state[RUN + 3] = u16::from(run.index);
     state[RUN + 4] = u16::from(run.repeats_left);
 }

@@ -1,12 +1,22 @@
 -- `bank_slots::looks::take_replies` meets its contract: it is refused, or gives each lane's reply, and none are held after it.
 -- Assumes nothing.
-use Rattle.std.proofs.Common.{◌≡◌, set, ◌∙◌, arith, rules}
+use Rattle.std.proofs.Common.{◌≡◌, ◌+◌, ◌*◌, set, ap, ◌∙◌, arith, rules}
+use Rattle.dshot_reply_spec.specs.Answer.{Answer, refused, pick}
+use Rattle.dshot_reply_spec.specs.Refusals.{no_reply}
+use Rattle.dshot_reply_spec.specs.Value.{Reading}
+use Rattle.dshot_reply.specs.Answers.{reply_answer}
+use Rattle.bank_slots_spec.specs.Memory.{at, word, write}
+use Rattle.bank_slots_spec.specs.Places.{REPLIES}
+use Rattle.bank_slots_spec.specs.Load.{reply}
+use Rattle.bank_slots_spec.specs.Outs.{reply_slots}
+use Rattle.bank_slots_spec.specs.Parts.{slot_rows}
 use Rattle.dshot_bank_spec.specs.Lanes.{each}
-use Rattle.dshot_bank_spec.proofs.LaneLaws.{each_none, each_more, each_all}
+use Rattle.dshot_bank_spec.proofs.LaneLaws.{on, off, each_none, each_more, each_all}
 use Rattle.bank_slots.proofs.Copied.{reply_handed, all-handed}
 use Rattle.bank_slots.proofs.Parts.{bit-is}
 use Rattle.bank_slots.proofs.Unfit.{unfit, unfit-out}
 use Rattle.bank_slots.proofs.looks.take_replies.Goals as goal
+use Rattle.bank_slots.proofs.looks.take_replies.Goals.{then-held, else-held}
 
 pub returns-in_err-state : goal.returns-in_err-state
 returns-in_err-state c = record { called = λ b. unfit (search rules) (search rules) (search rules); out_after = λ b. unfit-out _ _ (search rules) (search rules) }
@@ -18,7 +28,15 @@ pub loop-lane-init : goal.loop-lane-init
 loop-lane-init c = each_none _ _
 
 pub loop-lane-preserved : goal.loop-lane-preserved
-loop-lane-preserved c = each_more _ _ _ c.loop-lane.invariant c.hand_out.ensures
+loop-lane-preserved c =
+    let xs = c.in_ok-state.state.now in
+    let from = REPLIES + 9 * c.loop-lane.lane in
+    let read : reply_answer c.if-held.read ≡ pick c.flag-held.result (reply (at xs from) (word (from + 1) (at xs))) (refused no_reply) =
+    elim c.if-held.branch [
+      | then-held w ↦ on _ _ w.if-held.true (ap reply_answer w.read-is ∙ w.reply_at-read.ensures)
+      | else-held w ↦ off _ _ w.if-held.false (ap reply_answer w.read-is)
+    ] in
+    each_more _ _ _ c.loop-lane.invariant (c.put_reply.ensures ∙ ap (λ (r : Answer Reading). write (slot_rows (1 + 4 * c.loop-lane.lane) (reply_slots r)) c.loop-lane.out) read)
 
 pub returns : goal.returns
 returns c =
