@@ -14,7 +14,6 @@ ghost use Rattle.dshot_bank.specs.States.{present_of, masks_of, demand_of, core_
 ghost use Rattle.dshot_bank.specs.Orders.{held, orders_of, Just};
 ghost use Rattle.dshot_bank.specs.Serves.{service_event_of, service_answer, Skips, Serves};
 
-use crate::looks::buffers_fit;
 use crate::orders::Orders;
 use crate::replies::{LaneAnswers, LaneFlags, decode_replies};
 use crate::send::Handled;
@@ -118,12 +117,6 @@ pub fn sent_event(started: bool, lease_expired: bool) -> DshotServiceEvent
     } else {
         DshotServiceEvent::FrameStarted
     }
-}
-
-pub fn lengths_fit(first: usize, second: usize, captures: usize) -> bool
-    ensures { result ≡ service_fits 4 first second captures }
-{
-    buffers_fit(first, second) && captures == SAMPLES
 }
 
 impl DshotBank {
