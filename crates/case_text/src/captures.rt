@@ -25,14 +25,12 @@ pub fn unroll(runs: &[u64], stated: u64, out: &mut [u16]) -> Option<usize>
     ensures in_bounds { IfSome result (λ n. n ≤ length out.new) }
     ensures samples { IfSome result (λ n. take n out.new ≡ unrolled runs.now) }
 {
-    if (runs.len() / 2) as u64 != stated {
+    let (runs, rest) = runs.as_chunks::<2>();
+    if runs.len() as u64 != stated || !rest.is_empty() {
         return None;
     }
     let mut n = 0;
-    for run in runs.chunks(2) {
-        let &[sample, times] = run else {
-            return None;
-        };
+    for &[sample, times] in runs {
         n = add_run(out, n, sample, times)?;
     }
     Some(n)

@@ -1,22 +1,13 @@
 // Reads the numbers of a line.
 
 ghost use Rattle.std.specs.Prelude.{◌≡◌, ◌+◌, ◌-◌, ◌≤◌, length, drop};
-ghost use Rattle.case_text.specs.Numbers.{before, digit_of, number_at, whole_number, flag_of};
+ghost use Rattle.case_text.specs.Numbers.{digit_of, number_at, whole_number, flag_of};
 
 // The bytes from a place on. Past the end there are none.
 fn rest(text: &[u8], from: usize) -> &[u8]
     ensures { result.now ≡ drop from text.now }
 {
     text.get(from..).unwrap_or(&[])
-}
-
-// The place of the first byte `byte` from `from` on. If there is none, the number of bytes. If `from` is past the end, `from` itself.
-pub fn find(text: &[u8], from: usize, byte: u8) -> usize
-    ensures value { result ≡ from + before byte (drop from text.now) }
-    ensures from_in_bounds { result - from ≤ length text.now - from }
-{
-    let rest = rest(text, from);
-    from + rest.iter().position(|b| *b == byte).unwrap_or(rest.len())
 }
 
 fn digit(byte: u8) -> Option<u64>

@@ -4,20 +4,13 @@ use crate::outcome::{Outcome, answered};
 use crate::part::of_motor;
 use case_text::answers::status;
 use case_text::numbers::flag;
-use dshot::{DshotCommandSequence, DshotTiming};
+use case_text::structs::{run_of, timing_of};
 use dshot_bank::DshotBank;
 
 // 0 ARR ZERO_HIGH ONE_HIGH REPLY_SAMPLE_ARR
 pub(crate) fn from_lanes(given: &[u64]) -> Option<Outcome> {
-    let counts = given.as_array::<4>()?.try_map(u16::try_from).ok()?;
-    let [arr, zero_high, one_high, reply_sample_arr] = counts;
-    let timing = DshotTiming {
-        arr,
-        zero_high,
-        one_high,
-        reply_sample_arr,
-    };
-    answered(&[], DshotBank::from_lanes(timing))
+    let timing = timing_of(*given.as_array::<4>()?)?;
+    Some(answered(&[], DshotBank::from_lanes(timing)))
 }
 
 // 1 RECEIVES
@@ -26,14 +19,11 @@ pub(crate) fn enable_bidirectional(given: &[u64], bank: DshotBank) -> Option<Out
         return None;
     };
     let enabled = bank.enable_bidirectional(flag(receives)?);
-    answered(&[status(enabled.answer)], enabled.bank)
+    Some(answered(&[status(enabled.answer)], enabled.bank))
 }
 
 // 2
-pub(crate) fn command_stop(given: &[u64], bank: DshotBank) -> Option<Outcome> {
-    let [] = given else {
-        return None;
-    };
+pub(crate) fn command_stop(bank: DshotBank) -> Outcome {
     answered(&[0], bank.command_stop())
 }
 
@@ -45,21 +35,17 @@ pub(crate) fn command_throttles(given: &[u64], bank: DshotBank) -> Option<Outcom
     let commands = [a, b, c, d].try_map(u16::try_from).ok()?;
     let lease_duration_ms = u32::try_from(lease_duration_ms).ok()?;
     let throttled = bank.command_throttles(commands, now_ms, lease_duration_ms);
-    answered(&[status(throttled.answer)], throttled.bank)
+    Some(answered(&[status(throttled.answer)], throttled.bank))
 }
 
 // 4 MOTOR C0 C1 INDEX LEFT
 pub(crate) fn command_special(given: &[u64], bank: DshotBank) -> Option<Outcome> {
-    let &[motor, c0, c1, index, left] = given else {
+    let [motor, run @ ..] = given else {
         return None;
     };
-    let sequence = DshotCommandSequence {
-        commands: [c0, c1].try_map(u16::try_from).ok()?,
-        index: u8::try_from(index).ok()?,
-        repeats_left: u8::try_from(left).ok()?,
-    };
-    let queued = bank.command_special(motor as usize, sequence);
-    answered(&[status(queued.answer)], queued.bank)
+    let sequence = run_of(*run.as_array::<4>()?)?;
+    let queued = bank.command_special(*motor as usize, sequence);
+    Some(answered(&[status(queued.answer)], queued.bank))
 }
 
 // 5 MOTOR
@@ -68,22 +54,16 @@ pub(crate) fn request_telemetry(given: &[u64], bank: DshotBank) -> Option<Outcom
         return None;
     };
     let requested = bank.request_telemetry(motor as usize);
-    answered(&[status(requested.answer)], requested.bank)
+    Some(answered(&[status(requested.answer)], requested.bank))
 }
 
 // 6
-pub(crate) fn cancel_telemetry_request(given: &[u64], bank: DshotBank) -> Option<Outcome> {
-    let [] = given else {
-        return None;
-    };
+pub(crate) fn cancel_telemetry_request(bank: DshotBank) -> Outcome {
     answered(&[0], bank.cancel_telemetry_request())
 }
 
 // 7
-pub(crate) fn take_telemetry_request_sent(given: &[u64], bank: DshotBank) -> Option<Outcome> {
-    let [] = given else {
-        return None;
-    };
+pub(crate) fn take_telemetry_request_sent(bank: DshotBank) -> Outcome {
     let taken = bank.take_telemetry_request_sent();
     answered(&[of_motor(taken.answer)], taken.bank)
 }

@@ -2,20 +2,10 @@
 
 use crate::part::of_motor;
 use crate::{counts, put, replies};
-use dshot::DshotTiming;
+use case_text::structs::{of_run, of_timing};
 use dshot_bank::{Demand, DshotBank, Frame, MotorRun, Requests};
 use std::io;
 use std::io::Write;
-
-// No call on a bank changes the timing. It is printed so that a call that changed it would be seen.
-fn of_timing(timing: DshotTiming) -> [u64; 4] {
-    [
-        u64::from(timing.arr),
-        u64::from(timing.zero_high),
-        u64::from(timing.one_high),
-        u64::from(timing.reply_sample_arr),
-    ]
-}
 
 // The last number is 0 if there is no lease. Otherwise it is 1, and the duration follows.
 fn put_demand(out: &mut impl Write, demand: Demand) -> io::Result<()> {
@@ -35,10 +25,8 @@ fn put_requests(out: &mut impl Write, requests: Requests) -> io::Result<()> {
     let Some(MotorRun { motor, sequence }) = requests.command_sequence else {
         return put::numbers(out, &[0]);
     };
-    let [first, second] = sequence.commands.map(u64::from);
-    let index = u64::from(sequence.index);
-    let left = u64::from(sequence.repeats_left);
-    put::numbers(out, &[of_motor(Some(motor)), first, second, index, left])
+    put::numbers(out, &[of_motor(Some(motor))])?;
+    put::numbers(out, &of_run(sequence))
 }
 
 fn of_frame(frame: Frame) -> [u64; 7] {
@@ -56,6 +44,7 @@ fn of_frame(frame: Frame) -> [u64; 7] {
 // The replies and their counts are printed as the bank's own calls show them. The last numbers are, for each lane, the buffer from which it is sending.
 pub(crate) fn put_fields(out: &mut impl Write, bank: DshotBank) -> io::Result<()> {
     let core = bank.core;
+    // No call on a bank changes the timing. It is printed so that a call that changed it would be seen.
     put::numbers(out, &of_timing(core.timing))?;
     put_demand(out, core.demand)?;
     put_requests(out, core.requests)?;

@@ -1,8 +1,7 @@
 // Makes the call of code 9: an interrupt.
 
 use crate::numbers::flags;
-use crate::outcome::Outcome;
-use crate::part;
+use crate::outcome::{Outcome, answered};
 use crate::part::of_event;
 use dshot_bank::DshotBank;
 use dshot_bank::interrupt::DmaAnswers;
@@ -12,19 +11,19 @@ pub(crate) fn on_dma_interrupt(given: &[u64], bank: DshotBank) -> Option<Outcome
     let &[motor, complete, error, turned, back] = given else {
         return None;
     };
-    let [complete, error, turned, back] = flags([complete, error, turned, back])?;
+    let [transfer_complete, dma_error, turned, turned_back] = flags([
+        complete, error, turned, back,
+    ])?;
     let answers = DmaAnswers {
-        transfer_complete: complete,
-        dma_error: error,
+        transfer_complete,
+        dma_error,
         turned,
-        turned_back: back,
+        turned_back,
     };
     let interrupted = bank.on_dma_interrupt(motor as usize, answers);
     let event = interrupted.answer.map(|event| event as u64 + 1);
     Some(Outcome {
-        answer: part::of(&of_event(event)),
         orders: interrupted.orders,
-        first_duties: [0; 4],
-        bank: interrupted.bank,
+        ..answered(&of_event(event), interrupted.bank)
     })
 }

@@ -1,4 +1,4 @@
-// Makes the calls of codes 10 to 16, 17 and 21: the looks, the replies, the view, and whether a release is due. Codes 10 to 16 have no arguments.
+// Makes the calls of codes 10 to 17 and 21: the replies, the looks, the view, and whether a release is due.
 
 use crate::outcome::{Outcome, answered};
 use crate::part::Part;
@@ -8,27 +8,43 @@ use case_text::answers::status;
 use dshot_bank::looks::ViewError;
 use dshot_bank::{DshotBank, fallback_release_due};
 
-// 10 to 16
-pub(crate) fn look(code: u64, given: &[u64], bank: DshotBank) -> Option<Outcome> {
-    let [] = given else {
-        return None;
-    };
-    match code {
-        10 => {
-            let taken = bank.take_replies();
-            answered(replies::of_taken(taken.answer).as_slice(), taken.bank)
-        }
-        11 => answered(&[u64::from(bank.is_bidirectional())], bank),
-        12 => answered(&[u64::from(bank.is_faulted())], bank),
-        13 => answered(&counts::of_stats(bank.stats()), bank),
-        14 => answered(&bank.requested_values().map(u64::from), bank),
-        15 => answered(&[u64::from(bank.command_pending())], bank),
-        16 => answered(
-            counts::of_reply_stats(bank.reply_stats()).as_flattened(),
-            bank,
-        ),
-        _ => None,
-    }
+// 10
+pub(crate) fn take_replies(bank: DshotBank) -> Outcome {
+    let taken = bank.take_replies();
+    answered(replies::of_taken(taken.answer).as_slice(), taken.bank)
+}
+
+// 11
+pub(crate) fn is_bidirectional(bank: DshotBank) -> Outcome {
+    answered(&[u64::from(bank.is_bidirectional())], bank)
+}
+
+// 12
+pub(crate) fn is_faulted(bank: DshotBank) -> Outcome {
+    answered(&[u64::from(bank.is_faulted())], bank)
+}
+
+// 13
+pub(crate) fn stats(bank: DshotBank) -> Outcome {
+    answered(&counts::of_stats(bank.stats()), bank)
+}
+
+// 14
+pub(crate) fn requested_values(bank: DshotBank) -> Outcome {
+    answered(&bank.requested_values().map(u64::from), bank)
+}
+
+// 15
+pub(crate) fn command_pending(bank: DshotBank) -> Outcome {
+    answered(&[u64::from(bank.command_pending())], bank)
+}
+
+// 16
+pub(crate) fn reply_stats(bank: DshotBank) -> Outcome {
+    answered(
+        counts::of_reply_stats(bank.reply_stats()).as_flattened(),
+        bank,
+    )
 }
 
 // A refusal's number, or 0 and the 16 slots of a view.
@@ -49,12 +65,12 @@ pub(crate) fn view(given: &[u64], bank: DshotBank, buffers: &Buffers) -> Option<
     let first = first.get(..in_first as usize)?;
     let second = second.get(..in_second as usize)?;
     let answer = of_view(bank.sending(first, second, motor as usize))?;
-    answered(answer.as_slice(), bank)
+    Some(answered(answer.as_slice(), bank))
 }
 
 // 21 NOW LAST. It asks no bank.
 pub(crate) fn release_due(given: &[u64], bank: DshotBank) -> Option<Outcome> {
     let [now_ms, last_release_ms] = given.as_array::<2>()?.try_map(u32::try_from).ok()?;
     let is_due = fallback_release_due(now_ms, last_release_ms);
-    answered(&[u64::from(is_due)], bank)
+    Some(answered(&[u64::from(is_due)], bank))
 }

@@ -18,13 +18,13 @@ pub struct Outcome {
 }
 
 // The outcome of a call that gives no orders.
-pub(crate) fn answered(answer: &[u64], bank: DshotBank) -> Option<Outcome>
+pub(crate) fn answered(answer: &[u64], bank: DshotBank) -> Outcome
     requires { length answer.now ≤ 17 }
 {
-    Some(Outcome {
+    Outcome {
         answer: part::of(answer),
         orders: Orders { count: 0, codes: 0 },
         first_duties: [0; 4],
         bank,
-    })
+    }
 }

@@ -1,8 +1,7 @@
 // Makes the call of code 8: a service.
 
 use crate::numbers::flags;
-use crate::outcome::Outcome;
-use crate::part;
+use crate::outcome::{Outcome, answered};
 use crate::part::of_event;
 use crate::slots::{Buffers, ROOM};
 use case_text::captures::unroll;
@@ -46,9 +45,8 @@ pub(crate) fn service(given: &[u64], bank: DshotBank, buffers: &mut Buffers) -> 
     } = bank.service(*now_ms, answers, first, second, captures);
     let event = answer.map(|event| event as u64 + 1);
     Some(Outcome {
-        answer: part::of(&of_event(event)),
         orders,
         first_duties,
-        bank,
+        ..answered(&of_event(event), bank)
     })
 }

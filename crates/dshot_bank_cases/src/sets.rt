@@ -15,7 +15,7 @@ pub(crate) fn slot(given: &[u64], bank: DshotBank, buffers: &mut Buffers) -> Opt
     let value = u16::try_from(value).ok()?;
     let buffer = buffers.get_mut(buffer as usize)?;
     *buffer[..USED_SLOTS].get_mut(slot as usize)? = value;
-    answered(&[], bank)
+    Some(answered(&[], bank))
 }
 
 // 19 COUNT*11
@@ -44,16 +44,20 @@ pub(crate) fn stats(given: &[u64], mut bank: DshotBank) -> Option<Outcome> {
         dma_faults,
         spurious_interrupts,
     };
-    answered(&[], bank)
+    Some(answered(&[], bank))
 }
 
 // 20 VALID*4 INVALID*4 CONSECUTIVE_INVALID*4
 pub(crate) fn reply_stats(given: &[u64], mut bank: DshotBank) -> Option<Outcome> {
     let counts = given.as_array::<12>()?.try_map(u32::try_from).ok()?;
-    for lane in 0..LANES {
-        bank.replies[lane].valid = counts[lane];
-        bank.replies[lane].invalid = counts[LANES + lane];
-        bank.replies[lane].consecutive_invalid = counts[2 * LANES + lane];
+    let [valid, invalid, consecutive] = counts.as_chunks::<LANES>().0 else {
+        return None;
+    };
+    let counts = valid.iter().zip(invalid).zip(consecutive);
+    for (lane, ((valid, invalid), consecutive)) in bank.replies.iter_mut().zip(counts) {
+        lane.valid = *valid;
+        lane.invalid = *invalid;
+        lane.consecutive_invalid = *consecutive;
     }
-    answered(&[], bank)
+    Some(answered(&[], bank))
 }

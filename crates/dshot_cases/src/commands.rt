@@ -1,6 +1,7 @@
 // Replays records of throttles, of runs of commands and of leases, and the record of dshot.rs's constants.
 
 use case_text::numbers::flag;
+use case_text::structs::{of_run, run_of};
 use dshot::DshotCommandSequence;
 
 // 16 THROTTLE VALUE
@@ -39,36 +40,13 @@ pub(crate) fn run(fields: &[u64]) -> Option<bool> {
     Some(true)
 }
 
-// 22 COMMAND*2 INDEX LEFT GIVEN COMMAND COMMAND*2 INDEX LEFT. The last four are the run after the step.
+// 22 RUN*4 GIVEN COMMAND RUN*4. A run is its two commands, its index and its repeats left. The last one is the run after the step.
 pub(crate) fn step(fields: &[u64]) -> Option<bool> {
-    let &[
-        c0,
-        c1,
-        index,
-        left,
-        given,
-        command,
-        c0_after,
-        c1_after,
-        index_after,
-        left_after,
-    ] = fields
-    else {
-        return None;
-    };
-    let mut run = DshotCommandSequence {
-        commands: [c0, c1].try_map(u16::try_from).ok()?,
-        index: u8::try_from(index).ok()?,
-        repeats_left: u8::try_from(left).ok()?,
-    };
-    let commands = [c0_after, c1_after].try_map(u16::try_from).ok()?;
+    let (before, stored) = fields.split_first_chunk::<4>()?;
+    let (given, after) = stored.split_first_chunk::<2>()?;
+    let mut run = run_of(*before)?;
     let found = of_step(run.next_value());
-    let counts = [u64::from(run.index), u64::from(run.repeats_left)];
-    Some(
-        found == [given, command]
-            && run.commands == commands
-            && counts == [index_after, left_after],
-    )
+    Some(found == *given && of_run(run) == *after.as_array::<4>()?)
 }
 
 // 19 STARTED DURATION NOW EXPIRED

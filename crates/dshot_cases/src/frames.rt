@@ -2,6 +2,7 @@
 
 use case_text::answers::Answer;
 use case_text::numbers::flag;
+use case_text::structs::of_timing;
 use dshot::read::{Frame, FrameReadError};
 use dshot::{DshotPacket, DshotTiming, MotorPackets, MotorValues, read};
 
@@ -57,15 +58,6 @@ pub(crate) fn timing(fields: &[u64]) -> Option<bool> {
         numbers: [arr, zero, one, sample],
     };
     Some(Answer::from(made.map(of_timing)) == stored)
-}
-
-fn of_timing(timing: DshotTiming) -> [u64; 4] {
-    [
-        u64::from(timing.arr),
-        u64::from(timing.zero_high),
-        u64::from(timing.one_high),
-        u64::from(timing.reply_sample_arr),
-    ]
 }
 
 // The value, the telemetry bit and the kind of checksum.

@@ -30,7 +30,7 @@ const KINDS: [(u64, &str); 23] = [
 ];
 
 // How many answers were compared, and how many differ.
-#[derive(Clone, Copy)]
+#[derive(Clone, Copy, Default)]
 struct Count {
     compared: u64,
     differing: u64,
@@ -43,30 +43,38 @@ impl Count {
     }
 }
 
-// A count for each kind, and one of all.
+// A kind of records, the call that it replays, and what was counted of it.
+#[derive(Clone, Copy)]
+struct Kind {
+    number: u64,
+    name: &'static str,
+    count: Count,
+}
+
+// The kinds, and a count of all.
 #[derive(Clone, Copy)]
 pub struct Report {
-    kinds: [Count; 23],
+    kinds: [Kind; 23],
     all: Count,
 }
 
 impl Report {
     pub(crate) fn new() -> Self {
-        let none = Count {
-            compared: 0,
-            differing: 0,
-        };
         Report {
-            kinds: [none; 23],
-            all: none,
+            kinds: KINDS.map(|(number, name)| Kind {
+                number,
+                name,
+                count: Count::default(),
+            }),
+            all: Count::default(),
         }
     }
 
     // Counts an answer of a kind.
     pub(crate) fn count(&mut self, kind: u64, is_same: bool) {
-        for ((number, _), count) in KINDS.iter().zip(self.kinds.iter_mut()) {
-            if *number == kind {
-                count.add(is_same);
+        for counted in &mut self.kinds {
+            if counted.number == kind {
+                counted.count.add(is_same);
             }
         }
         self.all.add(is_same);
@@ -74,7 +82,7 @@ impl Report {
 
     // Prints how many answers were compared and how many differ, of each kind of call and of all.
     pub(crate) fn print(&self, rt: &impl Print) -> io::Result<()> {
-        for ((_, name), count) in KINDS.iter().zip(self.kinds.iter()) {
+        for Kind { name, count, .. } in &self.kinds {
             println!(rt;
                 "{name}: {} answers, {} differ",
                 count.compared, count.differing

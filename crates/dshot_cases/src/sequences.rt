@@ -4,7 +4,8 @@ use crate::frames::of_frame;
 use crate::records::UNTOUCHED;
 use arrayvec::ArrayVec;
 use case_text::answers::{Answer, status};
-use dshot::{DshotPacket, DshotTiming, read};
+use case_text::structs::timing_of;
+use dshot::{DshotPacket, read};
 
 const MOST_SLOTS: usize = 512;
 
@@ -15,15 +16,6 @@ fn slots(numbers: &[u64]) -> Option<ArrayVec<u16, MOST_SLOTS>> {
         slots.try_push(u16::try_from(*number).ok()?).ok()?;
     }
     Some(slots)
-}
-
-fn timing_of(arr: u64, zero: u64, one: u64, sample: u64) -> Option<DshotTiming> {
-    Some(DshotTiming {
-        arr: u16::try_from(arr).ok()?,
-        zero_high: u16::try_from(zero).ok()?,
-        one_high: u16::try_from(one).ok()?,
-        reply_sample_arr: u16::try_from(sample).ok()?,
-    })
 }
 
 // 14 PACKET DUTY REFUSAL SLOT*. The slots are all of the buffer after the call.
@@ -46,7 +38,7 @@ pub(crate) fn sequenced(fields: &[u64]) -> Option<bool> {
         return None;
     };
     let packet = DshotPacket(u16::try_from(*packet).ok()?);
-    let timing = timing_of(*arr, *zero, *one, *sample)?;
+    let timing = timing_of([*arr, *zero, *one, *sample])?;
     let stored = slots(numbers)?;
     let mut buffer = [UNTOUCHED; MOST_SLOTS];
     let out = &mut buffer[..stored.len()];
@@ -77,7 +69,7 @@ pub(crate) fn read(fields: &[u64]) -> Option<bool> {
         return None;
     };
     let first = u16::try_from(*first).ok()?;
-    let timing = timing_of(*arr, *zero, *one, *sample)?;
+    let timing = timing_of([*arr, *zero, *one, *sample])?;
     let slots = slots(numbers)?;
     let stored = Answer {
         refusal: *refusal,
