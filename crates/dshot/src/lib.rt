@@ -7,10 +7,10 @@
 // The source's requirements: OUTPUT-001, OUTPUT-002, OUTPUT-004, OUTPUT-005, OUTPUT-006, OUTPUT-007, OUTPUT-008, OUTPUT-009. Safety-critical.
 #![tactic(auto)]
 
-ghost use Rattle.std.specs.Prelude.{◌≡◌, ◌+◌, ◌/◌, ◌^◌, ◌<◌, ◌≤◌, length, slice_index, if◌then◌else◌};
+ghost use Rattle.std.specs.Prelude.{◌≡◌, ◌+◌, ◌/◌, ◌^◌, ◌<◌, ◌≤◌, length, if◌then◌else◌};
 ghost use Rattle.dshot_reply_spec.specs.Answer.{refusal_number, filled};
 ghost use Rattle.dshot_reply_spec.specs.Nearest.{nearest};
-ghost use Rattle.dshot_spec.specs.Packet.{plain, inverted, packet_word, try_packet, checksum, asks, motor_packets};
+ghost use Rattle.dshot_spec.specs.Packet.{plain, inverted, packet_word, try_packet, checksum, motor_packets};
 ghost use Rattle.dshot_spec.specs.Timing.{from_clocks, duty_for_bit};
 ghost use Rattle.dshot_spec.specs.Sequence.{is_set, encoded_packet, encoded_sequence, first_duty};
 ghost use Rattle.dshot_spec.specs.Tabulate.{tabulate};
@@ -23,6 +23,7 @@ ghost use Rattle.dshot.specs.Steps.{slot};
 
 use dshot_reply::REPLY_SAMPLES_PER_BIT;
 use dshot_reply::refusals::{Refusal, WrongLength};
+use std::array;
 
 // The readers, which are not in the source.
 pub mod read;
@@ -134,6 +135,7 @@ pub type MotorValues = [u16; 4];
 
 pub type MotorPackets = [DshotPacket; 4];
 
+#[tactic(auto, unfolding(dshot_spec::specs::Packet::motor_packets, dshot_spec::specs::Tabulate::tabulate))]
 pub fn packets_of_kind(
     kind: ChecksumKind,
     values: MotorValues,
@@ -141,12 +143,7 @@ pub fn packets_of_kind(
 ) -> MotorPackets
     ensures { words result ≡ motor_packets 4 (kind_of kind) values (lane_of telemetry_lane) }
 {
-    std::array::from_fn(
-        |index| -> DshotPacket
-            requires { index < 4 }
-            ensures { result.0 ≡ packet_word (kind_of kind) (slice_index values index) (asks (lane_of telemetry_lane) index) }
-        { DshotPacket::of_kind(kind, values[index], telemetry_lane == Some(index)) },
-    )
+    array::from_fn(|index| DshotPacket::of_kind(kind, values[index], telemetry_lane == Some(index)))
 }
 
 // Packs one synchronized four-lane frame set and sets the telemetry bit on at most one lane. If the telemetry lane is above 3, no lane has it.
@@ -297,9 +294,7 @@ pub fn encode_packet(
     ensures result_value { encoded_number result ≡ refusal_number (encoded_packet output.old packet.0 max_duty) }
     ensures output_after { output.new ≡ filled (λ l. l) output.old (encoded_packet output.old packet.0 max_duty) }
 {
-    if output.len() != FRAME_SLOTS {
-        return Err(WrongLength);
-    }
+    let output: &mut [u16; FRAME_SLOTS] = output.as_mut_array().ok_or(WrongLength)?;
     let duty_0 = (u32::from(max_duty) * 3 / 8) as u16;
     let duty_1 = (u32::from(max_duty) * 3 / 4) as u16;
     write_duties(packet, DSHOT_BITS, duty_0, duty_1, output);
@@ -319,15 +314,16 @@ pub fn encode_compare_sequence(
     ensures result_value { first_answer result ≡ first_duty (encoded_sequence dma_output.old packet.0 (timing_of timing)) }
     ensures dma_output_after { dma_output.new ≡ filled (λ s. s.slots) dma_output.old (encoded_sequence dma_output.old packet.0 (timing_of timing)) }
 {
-    if dma_output.len() != COMPARE_DMA_SLOTS {
-        return Err(WrongLength);
-    }
+    let slots: &mut [u16; COMPARE_DMA_SLOTS] = dma_output.as_mut_array().ok_or(WrongLength)?;
     // Both duties are read before the loop. The compiler passes the struct as one number, and in the loop it would shift each duty out of it again.
     let zero = timing.duty_for_bit(false);
     let one = timing.duty_for_bit(true);
-    write_duties(packet, DSHOT_BITS - 1, zero, one, dma_output);
+    write_duties(packet, DSHOT_BITS - 1, zero, one, slots);
     Ok(timing.duty_for_bit(bit_is_set(packet, 15)))
 }
+
+// The highest throttle. A higher one counts as this one.
+const MAX_THROTTLE: u16 = 2000;
 
 #[tactic(auto, unfolding(dshot_spec::specs::Throttle::throttle_value))]
 pub fn throttle_to_dshot(value: u16) -> u16
@@ -336,9 +332,9 @@ pub fn throttle_to_dshot(value: u16) -> u16
     if value == 0 {
         return 0;
     }
-    let value = u32::from(value.min(2000));
+    let value = u32::from(value.min(MAX_THROTTLE));
     let span = u32::from(DSHOT_MAX_THROTTLE - DSHOT_MIN_THROTTLE);
-    (u32::from(DSHOT_MIN_THROTTLE) + value * span / 2000) as u16
+    (u32::from(DSHOT_MIN_THROTTLE) + value * span / u32::from(MAX_THROTTLE)) as u16
 }
 
 #[tactic(auto, unfolding(dshot_spec::specs::Throttle::throttle_values, dshot_spec::specs::Tabulate::tabulate))]

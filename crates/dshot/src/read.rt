@@ -1,13 +1,13 @@
 // Added: the readers of packets and of sequences. They are not in the source.
 
-ghost use Rattle.std.specs.Prelude.{◌≡◌, ◌∷◌, length};
+ghost use Rattle.std.specs.Prelude.{◌≡◌, ◌∷◌};
 ghost use Rattle.dshot_spec.specs.Packet.{read_packet};
 ghost use Rattle.dshot_spec.specs.Sequence.{duty_bit, word_from, read_sequence};
 ghost use Rattle.dshot_reply.specs.Refusals.{refusal_number};
 ghost use Rattle.dshot.specs.Answers.{read_error_number, frame_answer, timing_of};
 ghost use Rattle.dshot.specs.Steps.{duty_answer};
 
-use crate::{COMPARE_DMA_SLOTS, ChecksumKind, DshotPacket, DshotTiming, checksum_of};
+use crate::{ChecksumKind, DSHOT_BITS, DshotPacket, DshotTiming, checksum_of};
 use dshot_reply::refusals::Refusal;
 
 // Why a packet or a sequence cannot be read.
@@ -79,8 +79,7 @@ impl DshotTiming {
 }
 
 // The word of sixteen duties, or `None` if one of them stands for no bit. The first duty is not in the slots.
-fn read_word(first: u16, slots: &[u16], timing: DshotTiming) -> Option<u16>
-    requires { length slots.now ≡ 15 }
+fn read_word(first: u16, slots: &[u16; DSHOT_BITS - 1], timing: DshotTiming) -> Option<u16>
     ensures { duty_answer result ≡ word_from (timing_of timing) 0 (first ∷ slots.now) }
 {
     let mut word = timing.bit_of(first)?;
@@ -99,16 +98,15 @@ pub fn read_compare_sequence(
 ) -> Result<Frame, FrameReadError>
     ensures { frame_answer result ≡ read_sequence (timing_of timing) (record { first = first; slots = dma_output.now }) }
 {
-    if dma_output.len() != COMPARE_DMA_SLOTS {
+    let Some((duties, [last])) = dma_output.split_first_chunk() else {
         return Err(FrameReadError::WrongLength);
-    }
+    };
     if timing.zero_high == timing.one_high {
         return Err(FrameReadError::WrongDuty);
     }
-    let last = COMPARE_DMA_SLOTS - 1;
-    if dma_output[last] != 0 {
+    if *last != 0 {
         return Err(FrameReadError::WrongDuty);
     }
-    let word = read_word(first, &dma_output[..last], timing).ok_or(FrameReadError::WrongDuty)?;
+    let word = read_word(first, duties, timing).ok_or(FrameReadError::WrongDuty)?;
     read_packet(DshotPacket(word))
 }
