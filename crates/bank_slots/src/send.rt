@@ -4,8 +4,9 @@
 //
 // Sending a frame set.
 
-ghost use Rattle.std.specs.Prelude.{◌≡◌, ℕ, ◌<◌, ◌≤◌, not, [], take};
-ghost use Rattle.std.specs.List.{position};
+ghost use Rattle.std.specs.Prelude.{◌≡◌, ℕ, ◌≤◌, true, not, [], take};
+ghost use Rattle.std.specs.List.{position as first_place};
+ghost use Rattle.dshot_bank_spec.specs.Lanes.{position};
 ghost use Rattle.dshot.specs.Answers.{timing_of};
 ghost use Rattle.dshot_bank_spec.specs.State.{Core, Bank, Buffers};
 ghost use Rattle.dshot_bank_spec.specs.Commands.{next_command_frame};
@@ -17,6 +18,7 @@ ghost use Rattle.bank_slots_spec.specs.Moves.{Moves, on_core};
 ghost use Rattle.bank_slots_spec.specs.Handles.{Serves};
 ghost use Rattle.bank_slots_spec.specs.Arguments.{taken};
 ghost use Rattle.bank_slots_spec.specs.Parts.{run_stepped, marks_turned, carried_by, request_carried, in_flight};
+ghost use Rattle.dshot_bank.specs.States.{motor_of, motor_at, choice_of};
 ghost use Rattle.dshot_bank.specs.Sends.{motor_command_of};
 ghost use Rattle.bank_slots.specs.Frames.{Sets, exchange_codes, refused_slots};
 
@@ -95,24 +97,27 @@ fn timing_at(state: &[u16; SLOTS]) -> DshotTiming
     }
 }
 
+#[tactic(auto, unfolding(bank_slots_spec::specs::Load::load))]
 fn marks_at(state: &[u16; SLOTS]) -> LaneFlags
     ensures { result ≡ (load state.now).core.frame.in_second }
 {
-    [
-        flag(state[IN_SECOND]),
-        flag(state[IN_SECOND + 1]),
-        flag(state[IN_SECOND + 2]),
-        flag(state[IN_SECOND + 3]),
-    ]
+    array::from_fn(|lane| flag(state[IN_SECOND + lane]))
 }
 
 // ---- the exchange
 
-// The first lane that did not take its buffer.
-fn first_refused(lanes: &[u16; LANES_SLOTS]) -> Option<usize>
-    ensures { result ≡ position (λ (taken : ℕ). not (Load.flag taken)) (take 4 lanes.now) }
+// The place of the first lane that did not take its buffer.
+fn first_off(lanes: &[u16; LANES_SLOTS]) -> Option<usize>
+    ensures { result ≡ first_place (λ (taken : ℕ). not (Load.flag taken)) (take 4 lanes.now) }
 {
     lanes[..LANES].iter().position(|taken| !flag(*taken))
+}
+
+// The first lane that did not take its buffer.
+fn first_refused(lanes: &[u16; LANES_SLOTS]) -> Option<DshotMotor>
+    ensures { choice_of result ≡ motor_at (position not (taken lanes.now)) }
+{
+    DshotMotor::from_index(first_off(lanes)?)
 }
 
 // Turns the marks of the first lanes: what they sent is now spare, and their spare is sent.
@@ -127,11 +132,10 @@ fn turn_marks(state: &mut [u16; SLOTS], turned: usize)
 }
 
 // A lane refuses its buffer. The lanes before it have turned.
-fn exchange_refused(state: &mut [u16; SLOTS], lane: usize)
-    requires { lane < 4 }
-    ensures { Moves (on_core (λ (c : Core). (exchange_refused 4 lane c).core)) state.old state.new }
+fn exchange_refused(state: &mut [u16; SLOTS], motor: DshotMotor)
+    ensures { Moves (on_core (λ (c : Core). (exchange_refused 4 (motor_of motor) c).core)) state.old state.new }
 {
-    turn_marks(state, lane);
+    turn_marks(state, motor.index());
     latch_fault(state, false);
 }
 
@@ -160,39 +164,41 @@ fn mark_in_flight(state: &mut [u16; SLOTS], now_ms: u64)
     bump(state, FRAMES_STARTED);
 }
 
-// If the frame carries a request, the request is sent and no longer pending.
-fn carry(state: &mut [u16; SLOTS], ordinary: bool)
-    ensures { Moves (on_core (request_carried ordinary)) state.old state.new }
+// If a request is pending, the frame carries it: it is sent and no longer pending.
+fn carry(state: &mut [u16; SLOTS])
+    ensures { Moves (on_core (request_carried true)) state.old state.new }
 {
     let request = state[REQUEST];
-    if ordinary && request != 0 {
+    if request != 0 {
         state[REQUEST] = 0;
         state[REQUEST_SENT] = request;
     }
 }
 
+// An ordinary frame set carries the pending telemetry request.
 fn frame_started(state: &mut [u16; SLOTS], now_ms: u64, ordinary: bool)
     ensures { Moves (on_core (λ (c : Core). frame_started 4 now_ms (carried_by ordinary c) c)) state.old state.new }
 {
     turn_marks(state, LANES);
     mark_in_flight(state, now_ms);
-    carry(state, ordinary);
+    if ordinary {
+        carry(state);
+    }
 }
 
 // ---- the answer of a service
 
 // The answer if a lane refuses its buffer: the exchanges up to that lane, and the orders of a latched fault. Each number of exchanges has a line of its
 // own. Otherwise the archive would need `memcpy`.
-fn tell_refused(out: &mut [u16; SERVICE_SLOTS], lane: usize, exchanges: &[u16; LANES])
-    requires { lane < 4 }
-    ensures { out.new ≡ refused_slots lane exchanges.now }
+fn tell_refused(out: &mut [u16; SERVICE_SLOTS], motor: DshotMotor, exchanges: &[u16; LANES])
+    ensures { out.new ≡ refused_slots (motor_of motor) exchanges.now }
 {
     let event = DshotServiceEvent::Faulted as u16;
-    match lane {
-        0 => tell(out, event, &exchanges[..1], &LATCH_ORDERS),
-        1 => tell(out, event, &exchanges[..2], &LATCH_ORDERS),
-        2 => tell(out, event, &exchanges[..3], &LATCH_ORDERS),
-        _ => tell(out, event, &exchanges[..4], &LATCH_ORDERS),
+    match motor {
+        DshotMotor::Motor1 => tell(out, event, &exchanges[..1], &LATCH_ORDERS),
+        DshotMotor::Motor2 => tell(out, event, &exchanges[..2], &LATCH_ORDERS),
+        DshotMotor::Motor3 => tell(out, event, &exchanges[..3], &LATCH_ORDERS),
+        DshotMotor::Motor4 => tell(out, event, &exchanges[..4], &LATCH_ORDERS),
     }
 }
 
@@ -208,15 +214,14 @@ pub(crate) fn send(
     ensures { Serves (λ (k : Bank) (b : Buffers). Spec.sending 4 now_ms (taken lanes.now) [] [] [] [] b lease_expired k.core k.replies) (record { first = first.entry.now; second = second.old }) (record { first = first.exit.now; second = second.new }) state.old state.new out.new }
 {
     let next = next_command_frame(state);
-    // An ordinary frame set carries the pending telemetry request.
     let ordinary = next.is_none();
     let set = frame_set(state, next);
     let kind = ChecksumKind::sent(flag(state[BIDIRECTIONAL]));
     let packets = packets_of_kind(kind, set.values, set.telemetry_lane);
     let duties = encode_lanes(first, second, marks_at(state), packets, timing_at(state));
-    if let Some(lane) = first_refused(lanes) {
-        tell_refused(out, lane, &exchanges(state));
-        exchange_refused(state, lane);
+    if let Some(motor) = first_refused(lanes) {
+        tell_refused(out, motor, &exchanges(state));
+        exchange_refused(state, motor);
         return;
     }
     let event = sent_event(true, lease_expired);

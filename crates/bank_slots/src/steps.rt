@@ -23,16 +23,13 @@ use crate::{
 };
 use dshot::{DshotCommandSequence, MotorValues};
 use dshot_bank::DshotMotor;
+use std::array;
 
+#[tactic(auto, unfolding(bank_slots_spec::specs::Load::load))]
 pub(crate) fn values_at(state: &[u16; SLOTS]) -> MotorValues
     ensures { result ≡ (load state.now).core.demand.requested_values }
 {
-    [
-        state[VALUES],
-        state[VALUES + 1],
-        state[VALUES + 2],
-        state[VALUES + 3],
-    ]
+    array::from_fn(|lane| state[VALUES + lane])
 }
 
 pub(crate) fn clear_run(state: &mut [u16; SLOTS])
