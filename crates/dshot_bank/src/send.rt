@@ -242,13 +242,7 @@ fn first_refused(taken: LaneFlags) -> Option<DshotMotor>
 fn turn_marks(turned: usize, in_second: LaneFlags) -> LaneFlags
     ensures { result ≡ turn_marks 4 turned in_second }
 {
-    array::from_fn(|lane| {
-        if lane < turned {
-            !in_second[lane]
-        } else {
-            in_second[lane]
-        }
-    })
+    array::from_fn(|lane| in_second[lane] ^ (lane < turned))
 }
 
 impl Requests {
