@@ -60,7 +60,7 @@ struct Run {
     pub sum: u32,
 }
 
-// Looks at each order, and adds its number.
+// Looks at each order, and adds its number. A loop over the orders makes each a kind, and takes 109 to 128 instructions a cycle more.
 fn add_orders(start: u32, orders: Orders) -> u32
     ensures { result ≡ add_all start (numbers_in orders.count orders.codes) }
 {
