@@ -16,6 +16,7 @@ use Rattle.dshot_reply_spec.proofs.Table.{at}
 use Rattle.dshot_reply_spec.proofs.XorLaws.{nibble-xor}
 use Rattle.dshot_reply_spec.specs.Answer.{given, refused}
 use Rattle.dshot_reply_spec.specs.Refusals.{invalid_symbol, wrong_checksum}
+use Rattle.dshot_reply.proofs.Tables.{decode_rule}
 use Rattle.dshot_reply_spec.specs.Gcr.{decode_word, from_nibbles, nibble_at, nibble_of, symbol_at}
 
 abbrev Mark : ℕ → Type 0
@@ -72,8 +73,8 @@ module _ (w a b c d : ℕ) (ea : a ≡ nibble_of (w / 32768 % 32)) (eb : b ≡ n
       same : {a b c d a' b' c' d' : ℕ} → a ≡ a' → b ≡ b' → c ≡ c' → d ≡ d' → from_nibbles a b c d ≡ from_nibbles a' b' c' d'
       same e f g h = cc
 
-  pub decode-last : 15 < d → decode_word w ≡ refused invalid_symbol
-  decode-last h = go mark0
+  pub decode_last : 15 < d → decode_word w ≡ refused invalid_symbol
+  decode_last h = go mark0
     where
       go : Mark d → decode_word w ≡ refused invalid_symbol
       go (inl e) = whole ∙ bad a b c d (inr (inr (inr e)))
@@ -92,9 +93,9 @@ module _ (w a b c d : ℕ) (ea : a ≡ nibble_of (w / 32768 % 32)) (eb : b ≡ n
   none-bad x y z u (suc (suc zero)) l e = omega arith
   none-bad x y z u (suc (suc (suc p))) l e = omega arith
 
-  pub decode-unequal : a + b + c + d < 61 → (bit_xor (bit_xor (bit_xor a b) c) d ≡ 15 → ⊥) → decode_word w ≡ refused wrong_checksum
+  pub decode_unequal : a + b + c + d < 61 → (bit_xor (bit_xor (bit_xor a b) c) d ≡ 15 → ⊥) → decode_word w ≡ refused wrong_checksum
   unfolding places
-  decode-unequal h n = whole ∙ unequal places (none-bad (omega arith) (omega arith) (omega arith) (omega arith)) n
+  decode_unequal h n = whole ∙ unequal places (none-bad (omega arith) (omega arith) (omega arith) (omega arith)) n
 
   -- if three are nibbles and the exclusive or is 0xF, the fourth is a nibble
   fourth : a + b + c ≤ 45 → bit_xor (bit_xor (bit_xor a b) c) d ≡ 15 → d < 255
@@ -109,15 +110,18 @@ module _ (w a b c d : ℕ) (ea : a ≡ nibble_of (w / 32768 % 32)) (eb : b ≡ n
       go (inl e) = absurd (apart (bit_xor (bit_xor a b) c) u (subst (λ (x : ℕ). bit_xor (bit_xor (bit_xor a b) c) x ≡ 15) e n))
       go (inr l) = omega arith
 
-  pub decode-value : a + b + c ≤ 45 → bit_xor (bit_xor (bit_xor a b) c) d ≡ 15 → decode_word w ≡ given (a * 256 + b * 16 + c)
+  pub decode_value : a + b + c ≤ 45 → bit_xor (bit_xor (bit_xor a b) c) d ≡ 15 → decode_word w ≡ given (a * 256 + b * 16 + c)
   unfolding places
-  decode-value h n = whole ∙ taken places (none-bad (omega arith) (omega arith) (omega arith) (fourth h n)) n
+  decode_value h n = whole ∙ taken places (none-bad (omega arith) (omega arith) (omega arith) (fourth h n)) n
 
-  pub decode-three : 45 < a + b + c → decode_word w ≡ refused invalid_symbol
-  decode-three h = go mark3 mark2 mark1
+  pub decode_three : 45 < a + b + c → decode_word w ≡ refused invalid_symbol
+  decode_three h = go mark3 mark2 mark1
     where
       go : Mark a → Mark b → Mark c → decode_word w ≡ refused invalid_symbol
       go (inl e) y z = whole ∙ bad a b c d (inl e)
       go (inr x) (inl e) z = whole ∙ bad a b c d (inr (inl e))
       go (inr x) (inr y) (inl e) = whole ∙ bad a b c d (inr (inr (inl e)))
       go (inr x) (inr y) (inr z) = absurd (omega arith)
+
+-- for the goals of `decode_gcr`
+pub ruleset decode_cases = (decode_rule, decode_three, decode_value, decode_last, decode_unequal)

@@ -9,6 +9,7 @@ use lib.ListN.{length, take, drop, replicate, length-append, length-replicate, l
 use lib.Seq.{take-add, take_at, drop_at, drop-drop, length-take-le, take_all}
 use borrow.Author.Tests.{ltb-false, eqb-false}
 use lib.Dec.{eqb, ltb}
+use Rattle.dshot_reply_spec.proofs.PeriodLaws.{grows, halved, scaled-more, scaled-done}
 use Rattle.dshot_reply_spec.proofs.Simulated.{simulated-written}
 use Rattle.dshot_reply_spec.proofs.SimulatedRenders.{length-bits}
 use Rattle.dshot_reply_spec.specs.Answer.{filled, given, pick, refusal_number, refused}
@@ -136,3 +137,9 @@ module _ (s : ℕ) (out : List ℕ) (v lead m : ℕ) where
   all-written pos z =
       let a = accepted z in
       (rw (simulated-written s pos out v lead m a.0 a.1), rw (simulated-written s pos out v lead m a.0 a.1))
+
+-- for the goals of `simulate_reply`
+pub ruleset written_cases = (accepted, all-written, nonzero, refused_so)
+
+-- for the goals of `period_value`
+pub ruleset period_cases = (grows, halved, scaled-more, scaled-done)

@@ -87,6 +87,7 @@ fn nibble_symbol(table: &[u32; 16], nibble: u16) -> u32
 }
 
 // What an ESC sends for `value`, as transition bits: the checksum, the GCR symbols, and the start edge. For simulating replies.
+#[tactic(auto, using(crate::proofs::Tables::encode_cases), unfolding(dshot_reply_spec::specs::Gcr::reply_word, dshot_reply_spec::specs::Gcr::word_of))]
 pub fn reply_transitions_for(value: u16) -> u32
     ensures { result ≡ reply_word value }
 {
@@ -166,6 +167,7 @@ fn run_bits(samples: usize) -> u32
 }
 
 // The bits so far, then a 1 and `run` - 1 zeros.
+#[tactic(auto, using(crate::proofs::WordLaws::push_or))]
 fn push_run(transitions: u32, run: u32) -> u32
     requires { (0 < run) × (run ≤ 21) × (transitions * 2 ^ run < 2 ^ 21) }
     ensures { result ≡ transitions * 2 ^ run + 2 ^ (run - 1) }
@@ -174,7 +176,7 @@ fn push_run(transitions: u32, run: u32) -> u32
 }
 
 // The answer at the end of reading. If too few bits were seen, there is no reply. Otherwise the missing bits are one last run.
-#[tactic(auto, unfolding(crate::specs::Steps::closed))]
+#[tactic(auto, using(crate::proofs::WordLaws::push_room), unfolding(crate::specs::Steps::closed))]
 fn close(bits: u32, transitions: u32) -> Result<u32, DshotReplyError>
     requires { (bits ≤ 21) × (transitions < 2 ^ bits) }
     ensures { number_answer result ≡ closed bits transitions }
@@ -239,6 +241,7 @@ fn symbol_nibble(table: &[u8; 32], symbol: u32) -> u32
 }
 
 // Decodes a reply's transition bits to its 12-bit value, checking every symbol and the checksum. The start edge, bit 20, is ignored.
+#[tactic(auto, using(crate::proofs::DecodeLaws::decode_cases), unfolding(dshot_reply_spec::specs::Gcr::nibble_of))]
 pub fn decode_gcr(transitions: u32) -> Result<u16, DshotReplyError>
     ensures { number_answer result ≡ decode_word transitions }
 {

@@ -14,7 +14,7 @@ pub struct ValuePeriod {
 }
 
 // The period of a value that is a speed. Only the low twelve bits of the value count.
-#[tactic(auto, unfolding(dshot_reply_spec::specs::ValuePeriod::value_period))]
+#[tactic(auto, using(crate::proofs::WordLaws::shl_cases), unfolding(dshot_reply_spec::specs::ValuePeriod::value_period))]
 pub fn value_period(value: u16) -> Result<ValuePeriod, DshotReplyError>
     ensures { value_period_answer result ≡ value_period value }
 {

@@ -32,7 +32,7 @@ impl From<SimulateError> for Refusal {
 }
 
 // The value of a period of 1 to 65535 us: halved until nine bits hold it, with the number of halvings as its exponent.
-#[tactic(auto, unfolding(dshot_reply_spec::specs::Period::period_value))]
+#[tactic(auto, using(crate::proofs::SimLaws::period_cases), unfolding(dshot_reply_spec::specs::Period::period_value))]
 pub fn period_value(period_us: u32) -> Result<u16, SimulateError>
     ensures { period_answer result ≡ period_value period_us }
 {
@@ -88,6 +88,7 @@ fn check(out_length: usize, lead: usize, pin_mask: u16) -> Result<(), SimulateEr
 }
 
 // Writes the capture of an ESC's reply of `value`: `lead` high samples, the reply, and high to the end of the buffer.
+#[tactic(auto, using(crate::proofs::SimLaws::written_cases))]
 pub fn simulate_reply(
     out: &mut [u16],
     value: u16,

@@ -8,7 +8,7 @@ use lib.ListN.{drop, take, length, length-drop}
 use lib.Seq.{take_all}
 use Rattle.dshot_reply.proofs.Levels.{off_some, off_none}
 use Rattle.dshot_reply.proofs.RunLaws.{rest_end, rest_over, rest-run, rest-start}
-use Rattle.dshot_reply.proofs.WordLaws.{push-lt, push-room}
+use Rattle.dshot_reply.proofs.WordLaws.{push_lt, push_room}
 use Rattle.dshot_reply.proofs.read_runs.Goals as goal
 
 pub loop-length-init : goal.loop-length-init
@@ -27,7 +27,7 @@ pub push_run-transitions-requires : goal.push_run-transitions-requires
 push_run-transitions-requires c =
     let v = c.loop-length in
     let r = c.run_bits-run.result in
-    (omega arith, omega arith, push-room v.transitions v.bits r v.invariant.2 (omega arith))
+    (omega arith, omega arith, push_room v.transitions v.bits r v.invariant.2 (omega arith))
 
 pub loop-length-preserved : goal.loop-length-preserved
 loop-length-preserved c =
@@ -40,7 +40,7 @@ loop-length-preserved c =
     let cut : take (length v.left.now - n) (drop n v.left.now) ≡ drop n v.left.now = take_all (length v.left.now - n) (drop n v.left.now) (omega (arith, length-drop n v.left.now)) in (
       rw cut (omega (arith, length-drop n v.left.now)),
       omega arith,
-      rw p.ensures (push-lt v.transitions v.bits r.result v.invariant.2 (omega arith)),
+      rw p.ensures (push_lt v.transitions v.bits r.result v.invariant.2 (omega arith)),
       rw cut
           (rw p.ensures
           (v.invariant.3
