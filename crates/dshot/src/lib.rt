@@ -135,7 +135,6 @@ pub type MotorValues = [u16; 4];
 
 pub type MotorPackets = [DshotPacket; 4];
 
-#[tactic(auto, unfolding(dshot_spec::specs::Packet::motor_packets, dshot_spec::specs::Tabulate::tabulate))]
 pub fn packets_of_kind(
     kind: ChecksumKind,
     values: MotorValues,
