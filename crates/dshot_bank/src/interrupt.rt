@@ -144,10 +144,14 @@ impl Core {
     // A lane has completed. After the last lane of a transmission, the receive window opens or the set is done. After the last window, the set is
     // done.
     #[tactic(auto, unfolding(dshot_bank_spec::specs::Interrupt::after_lane))]
-    fn after_lane(self, paused: Orders, answers: DmaAnswers) -> Handled<DshotInterruptEvent>
-        requires { (paused.count ≡ 1) × (paused.codes < 128) }
-        ensures { (motor : DshotMotor) → Begins paused motor → Interrupts result (after_lane 4 (motor_of motor) true false answers.turned answers.turned_back (core_of self)) }
+    fn after_lane(
+        self,
+        motor: DshotMotor,
+        answers: DmaAnswers,
+    ) -> Handled<DshotInterruptEvent>
+        ensures { Interrupts result (after_lane 4 (motor_of motor) true false answers.turned answers.turned_back (core_of self)) }
     {
+        let paused = Orders::paused(motor);
         if self.frame.completion_mask != ALL_MOTORS_COMPLETE {
             return self.handled(DshotInterruptEvent::Completed, paused);
         }
@@ -195,7 +199,7 @@ impl Core {
         if !answers.transfer_complete {
             return self.latched(true, DshotInterruptEvent::Spurious, paused);
         }
-        self.lane_done(motor).after_lane(paused, answers)
+        self.lane_done(motor).after_lane(motor, answers)
     }
 }
 
