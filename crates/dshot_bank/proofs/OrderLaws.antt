@@ -1,7 +1,7 @@
 -- The orders of a call in one number. Lists of orders are put together, and come back from the number as they went in.
 -- Assumes nothing.
 use Rattle.std.specs.Prelude.{Option, option_map}
-use Rattle.std.proofs.Common.{◌≡◌, ℕ, zero, suc, ◌+◌, ◌*◌, ◌/◌, ◌%◌, ◌<◌, ◌≤◌, Bool, true, false, not, eqb, ltb, List, [], ◌∷◌, ◌++◌, length, replicate, sym, refl, ap, ◌∙◌, subst, arith, length-append}
+use Rattle.std.proofs.Common.{◌≡◌, ℕ, zero, suc, ◌+◌, ◌*◌, ◌/◌, ◌%◌, ◌^◌, ◌<◌, ◌≤◌, Bool, true, false, not, eqb, ltb, List, [], ◌∷◌, ◌++◌, length, replicate, sym, refl, ap, ◌∙◌, subst, arith, length-append}
 use lib.Arith.{digits_div, digits_mod}
 use lib.Seq.{append_snoc}
 use Rattle.dshot_spec.specs.Tabulate.{tabulate}
@@ -47,6 +47,17 @@ held_append {o} l m n e h =
     let size : n + length m ≡ length (l ++ m) = ap (λ (i : ℕ). i + length m) (sym k) ∙ sym (length-append l m) in
     let sum : o.codes + above n (codes_of m) ≡ codes_of (l ++ m) = (λ j. c j + above (sym k j) (codes_of m)) ∙ sym (codes-append l m) in
     λ j. record { count = size j; codes = sum j }
+
+-- the orders of a latched fault, moved up by at most four orders
+pub moved_up : (n : ℕ) → n ≤ 4
+    → (codes_of (latch_orders 4) * 2 ^ (7 * n) % 2 ^ 64 ≡ above n (codes_of (latch_orders 4))) × (codes_of (latch_orders 4) * 2 ^ (7 * n) % 2 ^ 64 < 2 ^ 62)
+unfolding tabulate
+moved_up zero h = (refl, omega arith)
+moved_up (suc zero) h = (refl, omega arith)
+moved_up (suc (suc zero)) h = (refl, omega arith)
+moved_up (suc (suc (suc zero))) h = (refl, omega arith)
+moved_up (suc (suc (suc (suc zero)))) h = (refl, omega arith)
+moved_up (suc (suc (suc (suc (suc n))))) h = absurd (omega arith)
 
 -- ---- orders that the number and the first duties can hold
 

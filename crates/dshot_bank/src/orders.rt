@@ -93,18 +93,12 @@ const PAUSES: u64 = PAUSE + UP * (PAUSE + 1 + UP * (PAUSE + 2 + UP * (PAUSE + 3)
 const LATCHED: u64 = FORCE_LOW + UP * PAUSES;
 
 // The orders of a latched fault, moved up by some orders.
-#[tactic(auto, unfolding(dshot_spec::specs::Tabulate::tabulate))]
+#[tactic(auto, using(crate::proofs::OrderLaws::moved_up), unfolding(dshot_spec::specs::Tabulate::tabulate))]
 fn latched_above(orders: usize) -> u64
     requires { orders ≤ 4 }
     ensures { (result ≡ above orders (codes_of (latch_orders 4))) × (result < 4611686018427387904) }
 {
-    match orders {
-        0 => LATCHED,
-        1 => UP * LATCHED,
-        2 => UP_2 * LATCHED,
-        3 => UP_3 * LATCHED,
-        _ => UP_4 * LATCHED,
-    }
+    LATCHED << (7 * orders)
 }
 
 impl OrderKind {
