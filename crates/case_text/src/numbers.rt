@@ -1,7 +1,11 @@
 // Reads the numbers of a line.
 
-ghost use Rattle.std.specs.Prelude.{◌≡◌, ◌+◌, ◌-◌, ◌≤◌, length, drop};
+ghost use Rattle.std.specs.Prelude.{◌≡◌, ℕ, drop, map, length, List, Some, None, IfSome, IfNone, ◌⊎◌};
+ghost use Rattle.std.specs.Iterator.{IsFinite, Drains, YieldsThen};
+ghost use denote.Ref.{Bor};
 ghost use Rattle.case_text.specs.Numbers.{digit_of, number_at, whole_number, flag_of};
+
+use arrayvec::ArrayVec;
 
 // The bytes from a place on. Past the end there are none.
 fn rest(text: &[u8], from: usize) -> &[u8]
@@ -42,6 +46,22 @@ pub fn whole_number(word: &[u8]) -> Option<u64>
 {
     let (value, end) = read_number(word, 0)?;
     (end == word.len()).then_some(value)
+}
+
+// Reads words as numbers. If a word is no number, or there are more than N, there are none.
+pub fn read_words<'a, const N: usize, I: Iterator<Item = &'a [u8]>>(
+    words: I,
+) -> Option<ArrayVec<u64, N>>
+    requires can { I.can_next words }
+    requires ends { IsFinite (I.remaining words) }
+    ensures read { IfSome result (λ numbers. (ws : List (Bor (List ℕ))) × Drains I.next_gives words ws × (map (λ w. whole_number w.now) ws ≡ map Some numbers.items)) }
+    ensures refused { IfNone result ((ws : List (Bor (List ℕ))) × (w : Bor (List ℕ)) × (rest : I) × YieldsThen I.next_gives words ws (Some w) rest × ((length ws ≡ N) ⊎ (whole_number w.now ≡ None))) }
+{
+    let mut numbers = ArrayVec::new();
+    for word in words {
+        numbers.try_push(whole_number(word)?).ok()?;
+    }
+    Some(numbers)
 }
 
 // A flag is 0 or 1.

@@ -1,18 +1,14 @@
 // Reads the numbers of a line.
 
 use arrayvec::ArrayVec;
-use case_text::numbers::{flag, whole_number};
+use case_text::numbers::{flag, read_words};
 
 // The most numbers that a line has: eighteen, and two for each of 700 runs.
 const MOST_NUMBERS: usize = 1418;
 
 // Reads numbers with one space between them. Nothing else may stand there.
 pub(crate) fn read_line(line: &[u8]) -> Option<ArrayVec<u64, MOST_NUMBERS>> {
-    let mut numbers = ArrayVec::new();
-    for word in line.split(|byte| *byte == b' ') {
-        numbers.try_push(whole_number(word)?).ok()?;
-    }
-    Some(numbers)
+    read_words(line.split(|byte| *byte == b' '))
 }
 
 // A flag for each lane.
