@@ -1,3 +1,1 @@
 pub mod SlotLaws
-pub mod FrameLaws
-pub mod CaptureLaws

@@ -1,59 +1,64 @@
--- What an exported call answers and leaves in its slots, for every number of slots and every content. If every slot of a list is set, the list is
--- what was stored.
+-- What an exported call answers and leaves in its slots, for every number of slots and every content.
 -- Assumes nothing.
-use Prim.Native.Nat.{ℕ, ◌+◌}
-use mathlib.Core.Path.{◌≡◌, refl, sym, ap, ◌∙◌}
-use mathlib.Core.List.{List, ◌++◌, append-nil}
-use native.Mathlib.Omega.{arith}
-use lib.ListN.{length, get_or, drop_of_length-le}
-use lib.Seq.{ext_get_or, sets, sets-eq}
-use borrow.Author.Tests.{eq-eqb, ne_eqb}
-use Rattle.dshot_reply_spec.proofs.Answered.{refused-so}
-use Rattle.dshot_reply_spec.specs.Answer.{Answer, given, refused, refusal_number, filled}
+use Prim.Native.Nat.{ℕ}
+use mathlib.Core.Path.{◌≡◌, refl, ap, ◌∙◌}
+use mathlib.Core.Bool.{Bool, true, false}
+use mathlib.Core.List.{List}
+use lib.Dec.{eqb}
+use lib.ListN.{length}
+use Rattle.std.specs.Prelude.{Result, Ok, Err}
+use Rattle.dshot_reply.specs.Answers.{answer}
+use Rattle.dshot_reply_spec.specs.Answer.{Answer, given, refused, pick, and_then, refusal_number, filled}
 use Rattle.dshot_reply_spec.specs.Refusals.{wrong_length}
-use Rattle.dshot_spec.proofs.Tabulated.{length-tabulate, get_d_tabulate}
-use Rattle.dshot_spec.specs.Tabulate.{tabulate}
 use Rattle.kuzhenga.specs.Slots.{asked}
 
--- every slot set, one after the other
-pub all_set : (out xs : List ℕ) → length out ≡ length xs → sets out 0 xs ≡ xs
-all_set out xs h =
-    sets-eq xs out 0 (omega arith)
-    ∙ ap (λ (l : List ℕ). xs ++ l) (drop_of_length-le out {i = 0 + length xs} (omega arith))
-    ∙ append-nil xs
+-- the slots of an answer
+abbrev pub slots-of : {A : Type 0} → (A → List ℕ) → Answer A → Answer (List ℕ)
+slots-of slots a = and_then a (λ x. given (slots x))
 
--- a call that asks for n slots and is lent another number of them
-pub asked-not : {A : Type 0} (out : List ℕ) (n : ℕ) (a : Answer A) → (length out ≡ n → ⊥) → asked n out a ≡ refused wrong_length
+-- the slots of a `Result` are those of the answer that it means
+pub answered : {T E A : Type 0} (slots : A → List ℕ) (meaning : T → A) (number : E → ℕ) (r : Result T E)
+    → answer (λ x. slots (meaning x)) number r ≡ slots-of slots (answer meaning number r)
+answered slots meaning number (Ok x) = refl
+answered slots meaning number (Err e) = refl
+
+picked : {A : Type 0} (b : Bool) (slots : A → List ℕ) (n : ℕ) (a : Answer A)
+    → pick b (slots-of slots a) (refused n) ≡ slots-of slots (pick b a (refused n))
+picked true slots n a = refl
+picked false slots n a = refl
+
+-- asking for slots, and then turning the answer into them
+pub asked-slots : {A : Type 0} (slots : A → List ℕ) (out : List ℕ) (n : ℕ) (a : Answer A)
+    → asked n out (slots-of slots a) ≡ slots-of slots (asked n out a)
 unfolding asked
-asked-not out n a h = rw (ne_eqb (length out) n h)
+asked-slots slots out n a = picked (eqb (length out) n) slots wrong_length a
 
--- and one that is lent n
-pub asked-so : {A : Type 0} (out : List ℕ) (n : ℕ) (a : Answer A) → length out ≡ n → asked n out a ≡ a
+slots-number : {A : Type 0} (slots : A → List ℕ) (a : Answer A) → refusal_number (slots-of slots a) ≡ refusal_number a
+slots-number slots (given x) = refl
+slots-number slots (refused n) = refl
+
+slots-filled : {A : Type 0} (slots : A → List ℕ) (out : List ℕ) (a : Answer A) → filled (λ l. l) out (slots-of slots a) ≡ filled slots out a
+slots-filled slots out (given x) = refl
+slots-filled slots out (refused n) = refl
+
+swapped : {A : Type 0} (b c : Bool) (n : ℕ) (a : Answer A) → pick b (pick c a (refused n)) (refused n) ≡ pick c (pick b a (refused n)) (refused n)
+swapped true true n a = refl
+swapped true false n a = refl
+swapped false true n a = refl
+swapped false false n a = refl
+
+-- the order of two lengths makes no difference
+pub asked-both : {A : Type 0} (xs ys : List ℕ) (n m : ℕ) (a : Answer A) → asked n xs (asked m ys a) ≡ asked m ys (asked n xs a)
 unfolding asked
-asked-so out n a h = rw (eq-eqb (length out) n h)
+asked-both xs ys n m a = swapped (eqb (length xs) n) (eqb (length ys) m) wrong_length a
 
--- a list by its entries
-pub entries : (xs : List ℕ) (n : ℕ) → length xs ≡ n → tabulate n (λ i. get_or xs i 0) ≡ xs
-entries xs n h =
-    ext_get_or 0 (tabulate n (λ i. get_or xs i 0)) xs (length-tabulate (λ i. get_or xs i 0) n ∙ sym h)
-    (λ i l. get_d_tabulate (λ k. get_or xs k 0) n i 0 (omega (arith, length-tabulate (λ (k : ℕ). get_or xs k 0) n)))
+-- what `put` promises of an answer, and what a call promises of its own
+abbrev pub Puts : {A : Type 0} → (A → List ℕ) → List ℕ → Answer A → ℕ → List ℕ → Type 0
+Puts slots out a r exit = (r ≡ refusal_number a) × (exit ≡ filled slots out a)
 
-module _ {A : Type 0} (slots : A → List ℕ) (out : List ℕ) where
-  -- the number and the slots at exit of a call that asks for n slots and then answers a
-  abbrev pub Answers : ℕ → Answer A → ℕ → List ℕ → Type 0
-  Answers n a r exit = (r ≡ refusal_number (asked n out a)) × (exit ≡ filled slots out (asked n out a))
-
-  pub wrong-length : {n : ℕ} (a : Answer A) → (length out ≡ n → ⊥) → Answers n a 13 out
-  wrong-length {n} a h = refused-so slots out (asked-not out n a h)
-
-  -- an answer that is put into the slots is the call's
-  pub passed_on : {n r : ℕ} {a b : Answer A} {exit : List ℕ} → length out ≡ n → b ≡ a
-      → r ≡ refusal_number b → exit ≡ filled slots out b → Answers n a r exit
-  passed_on {n} {a = a} h e f g =
-      let same = e ∙ sym (asked-so out n a h) in
-      (f ∙ ap refusal_number same, g ∙ ap (filled slots out) same)
-
-  -- what was given, with every slot set
-  pub done : {n : ℕ} {a : Answer A} {x : A} → length out ≡ n → given x ≡ a → length (slots x) ≡ n
-      → Answers n a 0 (sets out 0 (slots x))
-  done {x = x} h e l = passed_on h e refl (all_set out (slots x) (h ∙ sym l))
+-- a call that puts the slots of an answer
+pub put-so : {A : Type 0} (slots : A → List ℕ) (a all : Answer A) (out : List ℕ) (n : ℕ) {r : ℕ} {exit : List ℕ}
+    → asked n out a ≡ all → Puts (λ l. l) out (asked n out (slots-of slots a)) r exit → Puts slots out all r exit
+put-so slots a all out n g p =
+    let same = asked-slots slots out n a ∙ ap (slots-of slots) g in
+    (p.0 ∙ ap refusal_number same ∙ slots-number slots all, p.1 ∙ ap (filled (λ l. l) out) same ∙ slots-filled slots out all)

@@ -16,6 +16,7 @@ ghost use Rattle.bank_slots_spec.specs.Outs.{out_after};
 ghost use Rattle.bank_slots_spec.specs.Arguments.{taken, present, masks, run_given};
 
 use bank_slots::{commands, interrupt, looks, service};
+use dshot_bank::interrupt::DmaAnswers;
 use dshot_reply::refusals::status_number;
 
 // Makes a new bank with a timing in four slots. The first lent buffer is current, and the second is spare.
@@ -133,15 +134,13 @@ pub extern "C" fn kuzhenga_bank_on_dma_interrupt(
     ensures called { (b : Buffers) → Called (fit bank.old (sized 9 out.old)) (Call.on_dma_interrupt_call motor (not (eqb transfer_complete 0)) (not (eqb dma_error 0)) (not (eqb turned 0)) (not (eqb turned_back 0))) b bank.old bank.new result }
     ensures out_after { (b : Buffers) → out.new ≡ out_after (answer_of (fit bank.old (sized 9 out.old)) (state_at bank.old b) (Call.on_dma_interrupt_call motor (not (eqb transfer_complete 0)) (not (eqb dma_error 0)) (not (eqb turned 0)) (not (eqb turned_back 0)))) out.old }
 {
-    status_number(interrupt::on_dma_interrupt(
-        bank,
-        motor,
-        transfer_complete != 0,
-        dma_error != 0,
-        turned != 0,
-        turned_back != 0,
-        out,
-    ))
+    let answers = DmaAnswers {
+        transfer_complete: transfer_complete != 0,
+        dma_error: dma_error != 0,
+        turned: turned != 0,
+        turned_back: turned_back != 0,
+    };
+    status_number(interrupt::on_dma_interrupt(bank, motor, answers, out))
 }
 
 // The replies decoded since the last call, once: 1 and four slots a lane. If none are held, slot 0 is 0 and each lane has 7 (no reply).

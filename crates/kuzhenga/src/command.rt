@@ -2,29 +2,39 @@
 //
 // A command run takes four slots: its two commands, its index, and how often the command is still to be sent.
 
-ghost use Rattle.std.specs.Prelude.{◌≡◌, not, ◌<◌, eqb, length, get_or};
+ghost use Rattle.std.specs.Prelude.{◌≡◌, not, ◌<◌, eqb, get_or, MatchOption};
 ghost use Rattle.dshot_reply_spec.specs.Answer.{given, refusal_number, filled};
 ghost use Rattle.dshot_spec.specs.Packet.{flag};
 ghost use Rattle.dshot_spec.specs.Throttle.{throttle_value, throttle_values};
 ghost use Rattle.dshot_spec.specs.Command.{spin_direction, next_value};
 ghost use Rattle.dshot_spec.specs.Lease.{lease_expired};
+ghost use Rattle.dshot_reply_spec.specs.Refusals.{wrong_length};
+ghost use Rattle.dshot_reply.specs.Answers.{answer};
+ghost use Rattle.dshot_reply.specs.Refusals.{status_number};
 ghost use Rattle.dshot.specs.Answers.{run_of, command_of};
 ghost use Rattle.kuzhenga.specs.Slots.{asked};
 ghost use Rattle.kuzhenga.specs.FrameSlots.{run_slots, run_at, command_slots};
 
-use crate::slots;
-use dshot::DshotCommandSequence;
-use dshot_reply::refusals::Refusal;
+use crate::slots::{Slots, put};
+use dshot::{DshotCommandSequence, MotorValues, throttle_to_dshot, throttles_to_dshot};
+use dshot_bank::DSHOT_COMMAND_MAX;
+use dshot_reply::refusals::{Refusal, WrongLength, status_number};
 
 // The DShot value of a throttle. A throttle above 2000 counts as 2000.
+#[tactic(auto, unfolding(dshot_spec::specs::Throttle::throttle_value))]
 #[unsafe(no_mangle)]
 pub extern "C" fn kuzhenga_throttle_to_dshot(value: u32) -> u32
     ensures { result ≡ throttle_value value }
 {
-    if value > 2000 {
-        return dshot::throttle_to_dshot(2000) as u32;
-    }
-    dshot::throttle_to_dshot(value as u16) as u32
+    let value = value.min(u32::from(DSHOT_COMMAND_MAX)) as u16;
+    u32::from(throttle_to_dshot(value))
+}
+
+fn throttles(values: &[u16]) -> Result<MotorValues, WrongLength>
+    ensures { answer (λ l. l) (λ _. wrong_length) result ≡ asked 4 values.now (given (throttle_values 4 values.now)) }
+{
+    let values = values.as_array().ok_or(WrongLength)?;
+    Ok(throttles_to_dshot(*values))
 }
 
 // The DShot values of four throttles.
@@ -33,30 +43,32 @@ pub extern "C" fn kuzhenga_throttles_to_dshot(values: &[u16], out: &mut [u16]) -
     ensures value { result ≡ refusal_number (asked 4 values.now (asked 4 out.old (given (throttle_values 4 values.now)))) }
     ensures out_after { out.new ≡ filled (λ l. l) out.old (asked 4 values.now (asked 4 out.old (given (throttle_values 4 values.now)))) }
 {
-    if values.len() != 4 {
-        return Refusal::WrongLength.number();
-    }
-    if out.len() != 4 {
-        return Refusal::WrongLength.number();
-    }
-    let made = dshot::throttles_to_dshot(slots::four_values(values));
-    slots::put_four(out, made[0], made[1], made[2], made[3]);
-    0
+    status_number(put(out, || throttles(values)))
 }
 
-// Puts a command run into four slots.
-fn put_run(run: DshotCommandSequence, out: &mut [u16])
-    requires { length out.old ≡ 4 }
-    ensures { out.new ≡ run_slots (run_of run) }
-{
-    let commands = run.commands;
-    slots::put_four(
-        out,
-        commands[0],
-        commands[1],
-        run.index as u16,
-        run.repeats_left as u16,
-    );
+impl Slots<4> for DshotCommandSequence {
+    ghost slots = { λ run. run_slots (run_of run) };
+
+    fn fill(&self, out: &mut [u16; 4]) {
+        *out = [
+            self.commands[0],
+            self.commands[1],
+            u16::from(self.index),
+            u16::from(self.repeats_left),
+        ];
+    }
+}
+
+// A command in two slots: 1 and the command, or 0 and 0.
+impl Slots<2> for Option<u16> {
+    ghost slots = { λ command. command_slots (command_of command) };
+
+    fn fill(&self, out: &mut [u16; 2]) {
+        match *self {
+            None => *out = [0, 0],
+            Some(sent) => *out = [1, sent],
+        }
+    }
 }
 
 // The command run that sets the spin direction and then saves it, in four slots.
@@ -65,43 +77,41 @@ pub extern "C" fn kuzhenga_command_spin_direction(reversed: u32, sequence: &mut 
     ensures value { result ≡ refusal_number (asked 4 sequence.old (given (spin_direction (not (eqb reversed 0))))) }
     ensures sequence_after { sequence.new ≡ filled run_slots sequence.old (asked 4 sequence.old (given (spin_direction (not (eqb reversed 0))))) }
 {
-    if sequence.len() != 4 {
-        return Refusal::WrongLength.number();
-    }
-    put_run(
-        DshotCommandSequence::spin_direction(reversed != 0),
-        sequence,
-    );
-    0
+    let run = DshotCommandSequence::spin_direction(reversed != 0);
+    status_number(put(sequence, || Ok::<_, Refusal>(run)))
 }
 
-// The command run in four slots. It is not spent.
-fn run_at(slots: &[u16]) -> DshotCommandSequence
-    requires { (length slots.now ≡ 4) × (get_or slots.now 2 0 < 2) }
-    ensures { next_value 10 (run_of result) ≡ next_value 10 (run_at slots.now) }
+// The command run in four slots, or `None` if it is spent.
+#[tactic(auto, unfolding(dshot_spec::specs::Command::next_value))]
+fn run_at(slots: &[u16; 4]) -> Option<DshotCommandSequence>
+    ensures { MatchOption result (1 < get_or slots.now 2 0) (λ run. next_value 10 (run_of run) ≡ next_value 10 (run_at slots.now)) }
 {
-    DshotCommandSequence {
+    if 1 < slots[2] {
+        return None;
+    }
+    Some(DshotCommandSequence {
         commands: [slots[0], slots[1]],
         index: slots[2] as u8,
         repeats_left: (slots[3] % 256) as u8,
-    }
+    })
 }
 
-// Puts a command into two slots.
-fn put_command(command: Option<u16>, out: &mut [u16])
-    requires { length out.old ≡ 2 }
-    ensures { out.new ≡ command_slots (command_of command) }
+#[tactic(auto, unfolding(dshot_spec::specs::Command::next_value, crate::specs::Slots::asked))]
+fn next_value(sequence: &mut [u16], value: &mut [u16]) -> Result<(), Refusal>
+    ensures value { status_number result ≡ refusal_number (asked 4 sequence.old (asked 2 value.old (given (next_value 10 (run_at sequence.old))))) }
+    ensures sequence_after { sequence.new ≡ filled (λ n. run_slots n.run) sequence.old (asked 4 sequence.old (asked 2 value.old (given (next_value 10 (run_at sequence.old))))) }
+    ensures value_after { value.new ≡ filled (λ n. command_slots n.command) value.old (asked 4 sequence.old (asked 2 value.old (given (next_value 10 (run_at sequence.old))))) }
 {
-    match command {
-        None => {
-            out[0] = 0;
-            out[1] = 0;
-        }
-        Some(sent) => {
-            out[0] = 1;
-            out[1] = sent;
-        }
-    }
+    let sequence = sequence.as_mut_array::<4>().ok_or(Refusal::WrongLength)?;
+    let value = value.as_mut_array::<2>().ok_or(Refusal::WrongLength)?;
+    let Some(mut run) = run_at(sequence) else {
+        None.fill(value);
+        return Ok(());
+    };
+    let command = run.next_value();
+    run.fill(sequence);
+    command.fill(value);
+    Ok(())
 }
 
 // Steps a run. Two slots take 1 and the command for the next frame. If the run is spent, they take 0 and 0.
@@ -111,22 +121,7 @@ pub extern "C" fn kuzhenga_command_next_value(sequence: &mut [u16], value: &mut 
     ensures sequence_after { sequence.new ≡ filled (λ n. run_slots n.run) sequence.old (asked 4 sequence.old (asked 2 value.old (given (next_value 10 (run_at sequence.old))))) }
     ensures value_after { value.new ≡ filled (λ n. command_slots n.command) value.old (asked 4 sequence.old (asked 2 value.old (given (next_value 10 (run_at sequence.old))))) }
 {
-    if sequence.len() != 4 {
-        return Refusal::WrongLength.number();
-    }
-    if value.len() != 2 {
-        return Refusal::WrongLength.number();
-    }
-    let index = sequence[2];
-    if 1 < index {
-        put_command(None, value);
-        return 0;
-    }
-    let mut run = run_at(sequence);
-    let command = run.next_value();
-    put_run(run, sequence);
-    put_command(command, value);
-    0
+    status_number(next_value(sequence, value))
 }
 
 // 1 if a command lease is older than its duration, else 0.

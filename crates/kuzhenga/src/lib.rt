@@ -4,7 +4,7 @@
 // call leaves every slot as it was. If a call cannot refuse, it returns the result itself. Numbers are 32 bits wide or a `usize`. Clocks in
 // milliseconds are 64 bits wide. If a number is wider than what it stands for, the call says what counts. In a flag, 0 means no, and any other number
 // means yes. No `bool`, enum or struct is passed.
-#![tactic(auto)]
+#![tactic(auto, unfolding(crate::specs::Slots::asked))]
 
 // A bank, with its state in lent slots.
 pub mod bank;

@@ -1,6 +1,6 @@
 // Added: the exported calls on replies and the simulated ESC. They wrap those of the crate `dshot_reply`.
 
-ghost use Rattle.std.specs.Prelude.{◌≡◌, not, ◌%◌, eqb, length};
+ghost use Rattle.std.specs.Prelude.{◌≡◌, not, ◌%◌, eqb};
 ghost use Rattle.dshot_reply_spec.specs.Answer.{refusal_number, filled};
 ghost use Rattle.dshot_reply_spec.specs.Gcr.{reply_word, decode_word};
 ghost use Rattle.dshot_reply_spec.specs.Runs.{transitions_of};
@@ -9,11 +9,15 @@ ghost use Rattle.dshot_reply_spec.specs.Reading.{sampled_reply};
 ghost use Rattle.dshot_reply_spec.specs.Simulate.{simulated};
 ghost use Rattle.dshot_reply_spec.specs.Period.{period_value};
 ghost use Rattle.dshot_reply_spec.specs.ValuePeriod.{value_period};
-ghost use Rattle.dshot_reply.specs.Answers.{reply_answer};
+ghost use Rattle.dshot_reply.specs.Answers.{reading, period_told};
 ghost use Rattle.kuzhenga.specs.Slots.{asked, one, halves, reading_slots, period_slots};
 
-use dshot_reply::refusals::Refusal;
-use dshot_reply::{DshotReply, DshotReplyError, kind, period, simulate};
+use crate::slots::{Slots, high, low, put};
+use dshot_reply::period::{ValuePeriod, value_period};
+use dshot_reply::refusals::{Refusal, status_number};
+use dshot_reply::{
+    DshotReply, decode_gcr, decode_sampled_reply, kind, reply_transitions, simulate,
+};
 
 // The reply word of `value` modulo 4096.
 #[unsafe(no_mangle)]
@@ -33,17 +37,7 @@ pub extern "C" fn kuzhenga_reply_transitions(
     ensures value { result ≡ refusal_number (asked 2 word.old (transitions_of 3 samples.now (pin_mask % 65536))) }
     ensures word_after { word.new ≡ filled halves word.old (asked 2 word.old (transitions_of 3 samples.now (pin_mask % 65536))) }
 {
-    if word.len() != 2 {
-        return Refusal::WrongLength.number();
-    }
-    match dshot_reply::reply_transitions(samples, (pin_mask % 65536) as u16) {
-        Ok(transitions) => {
-            word[0] = (transitions % 65536) as u16;
-            word[1] = (transitions / 65536) as u16;
-            0
-        }
-        Err(error) => Refusal::from(error).number(),
-    }
+    status_number(put(word, || reply_transitions(samples, low(pin_mask))))
 }
 
 // The checked value of transition bits, in one slot.
@@ -52,33 +46,16 @@ pub extern "C" fn kuzhenga_decode_gcr(transitions: u32, value: &mut [u16]) -> u3
     ensures value { result ≡ refusal_number (asked 1 value.old (decode_word transitions)) }
     ensures value_after { value.new ≡ filled one value.old (asked 1 value.old (decode_word transitions)) }
 {
-    if value.len() != 1 {
-        return Refusal::WrongLength.number();
-    }
-    match dshot_reply::decode_gcr(transitions) {
-        Ok(decoded) => {
-            value[0] = decoded;
-            0
-        }
-        Err(bad_word) => Refusal::from(bad_word).number(),
-    }
+    status_number(put(value, || decode_gcr(transitions)))
 }
 
-// Puts an answer into three slots: the kind in one, and the number in two.
-fn put_reply(answer: Result<DshotReply, DshotReplyError>, out: &mut [u16]) -> u32
-    requires { length out.old ≡ 3 }
-    ensures value { result ≡ refusal_number (reply_answer answer) }
-    ensures out_after { out.new ≡ filled reading_slots out.old (reply_answer answer) }
-{
-    match answer {
-        Ok(reply) => {
-            let n = kind::reading_number(reply);
-            out[0] = kind::kind_number(reply);
-            out[1] = (n % 65536) as u16;
-            out[2] = (n / 65536) as u16;
-            0
-        }
-        Err(error) => Refusal::from(error).number(),
+// A reading in three slots: its kind in one, and its number in two.
+impl Slots<3> for DshotReply {
+    ghost slots = { λ reply. reading_slots (reading reply) };
+
+    fn fill(&self, out: &mut [u16; 3]) {
+        let number = kind::reading_number(*self);
+        *out = [kind::kind_number(*self), low(number), high(number)];
     }
 }
 
@@ -92,13 +69,11 @@ pub extern "C" fn kuzhenga_reply_from_value(
     ensures value { result ≡ refusal_number (asked 3 out.old (reply_of (value % 4096) (not (eqb extended_telemetry 0)))) }
     ensures out_after { out.new ≡ filled reading_slots out.old (asked 3 out.old (reply_of (value % 4096) (not (eqb extended_telemetry 0)))) }
 {
-    if out.len() != 3 {
-        return Refusal::WrongLength.number();
-    }
-    put_reply(
-        DshotReply::from_value((value % 4096) as u16, extended_telemetry != 0),
+    let value = (value % 4096) as u16;
+    status_number(put(
         out,
-    )
+        || DshotReply::from_value(value, extended_telemetry != 0),
+    ))
 }
 
 // The reading of a capture, in three slots. Only the mask's low sixteen bits count.
@@ -112,17 +87,8 @@ pub extern "C" fn kuzhenga_decode_sampled_reply(
     ensures value { result ≡ refusal_number (asked 3 out.old (sampled_reply 3 samples.now (pin_mask % 65536) (not (eqb extended_telemetry 0)))) }
     ensures out_after { out.new ≡ filled reading_slots out.old (asked 3 out.old (sampled_reply 3 samples.now (pin_mask % 65536) (not (eqb extended_telemetry 0)))) }
 {
-    if out.len() != 3 {
-        return Refusal::WrongLength.number();
-    }
-    put_reply(
-        dshot_reply::decode_sampled_reply(
-            samples,
-            (pin_mask % 65536) as u16,
-            extended_telemetry != 0,
-        ),
-        out,
-    )
+    let edt = extended_telemetry != 0;
+    status_number(put(out, || decode_sampled_reply(samples, low(pin_mask), edt)))
 }
 
 // The value that the simulated ESC sends for a period, in one slot.
@@ -131,15 +97,15 @@ pub extern "C" fn kuzhenga_period_value(period_us: u32, value: &mut [u16]) -> u3
     ensures value { result ≡ refusal_number (asked 1 value.old (period_value period_us)) }
     ensures value_after { value.new ≡ filled one value.old (asked 1 value.old (period_value period_us)) }
 {
-    if value.len() != 1 {
-        return Refusal::WrongLength.number();
-    }
-    match simulate::period_value(period_us) {
-        Ok(v) => {
-            value[0] = v;
-            0
-        }
-        Err(error) => Refusal::from(error).number(),
+    status_number(put(value, || simulate::period_value(period_us)))
+}
+
+// A period in two slots: its microseconds and its step.
+impl Slots<2> for ValuePeriod {
+    ghost slots = { λ period. period_slots (period_told period) };
+
+    fn fill(&self, out: &mut [u16; 2]) {
+        *out = [self.period_us, self.step_us];
     }
 }
 
@@ -149,17 +115,7 @@ pub extern "C" fn kuzhenga_value_period(value: u32, period: &mut [u16]) -> u32
     ensures value { result ≡ refusal_number (asked 2 period.old (value_period (value % 4096))) }
     ensures period_after { period.new ≡ filled period_slots period.old (asked 2 period.old (value_period (value % 4096))) }
 {
-    if period.len() != 2 {
-        return Refusal::WrongLength.number();
-    }
-    match period::value_period((value % 4096) as u16) {
-        Ok(told) => {
-            period[0] = told.period_us;
-            period[1] = told.step_us;
-            0
-        }
-        Err(error) => Refusal::from(error).number(),
-    }
+    status_number(put(period, || value_period((value % 4096) as u16)))
 }
 
 // The capture that the simulated ESC's reply of `value` modulo 4096 leaves in a buffer. Only the mask's low sixteen bits count.
@@ -173,13 +129,6 @@ pub extern "C" fn kuzhenga_simulate_reply(
     ensures value { result ≡ refusal_number (simulated 3 samples.old (value % 4096) lead (pin_mask % 65536)) }
     ensures samples_after { samples.new ≡ filled (λ l. l) samples.old (simulated 3 samples.old (value % 4096) lead (pin_mask % 65536)) }
 {
-    match simulate::simulate_reply(
-        samples,
-        (value % 4096) as u16,
-        lead,
-        (pin_mask % 65536) as u16,
-    ) {
-        Ok(()) => 0,
-        Err(error) => Refusal::from(error).number(),
-    }
+    let written = simulate::simulate_reply(samples, (value % 4096) as u16, lead, low(pin_mask));
+    status_number(written.map_err(Refusal::from))
 }

@@ -1,33 +1,70 @@
-// Added, for the exported calls. Four slots are read as values or as a timing, or are filled.
+// Added, for the exported calls: how an answer is put into slots, and how numbers, timings and runs lie in them.
 
-ghost use Rattle.std.specs.Prelude.{◌≡◌, [], ◌∷◌, length};
+ghost use Rattle.std.specs.Prelude.{◌≡◌, ◌≤◌, ◌/◌, ◌%◌, ℕ, List, Result};
+ghost use Rattle.dshot_reply_spec.specs.Answer.{Answer, refusal_number, filled};
+ghost use Rattle.dshot_reply.specs.Answers.{answer};
+ghost use Rattle.dshot_reply.specs.Refusals.{refusal_number as number_of, status_number};
 ghost use Rattle.dshot.specs.Answers.{timing_of};
+ghost use Rattle.kuzhenga.specs.Slots.{asked, one, halves};
 ghost use Rattle.kuzhenga.specs.FrameSlots.{timing_at};
 
 use dshot::{DshotTiming, MotorValues};
+use dshot_reply::refusals::Refusal;
 
-// The values of the motors in four slots.
-pub(crate) fn four_values(slots: &[u16]) -> MotorValues
-    requires { length slots.now ≡ 4 }
-    ensures { result ≡ slots.now }
-{
-    [slots[0], slots[1], slots[2], slots[3]]
+// What lies in `N` slots.
+pub(crate) trait Slots<const N: usize>: Drop {
+    ghost slots: { Self → List ℕ };
+
+    fn fill(&self, out: &mut [u16; N])
+        ensures { out.new ≡ slots self.now };
 }
 
-// Fills four slots.
-pub(crate) fn put_four(out: &mut [u16], a: u16, b: u16, c: u16, d: u16)
-    requires { length out.old ≡ 4 }
-    ensures { out.new ≡ a ∷ b ∷ c ∷ d ∷ [] }
+// A number in one slot.
+impl Slots<1> for u16 {
+    ghost slots = { one };
+
+    fn fill(&self, out: &mut [u16; 1]) {
+        *out = [*self];
+    }
+}
+
+// A number in two slots, its low bits first.
+impl Slots<2> for u32 {
+    ghost slots = { halves };
+
+    fn fill(&self, out: &mut [u16; 2]) {
+        *out = [low(*self), high(*self)];
+    }
+}
+
+impl Slots<4> for MotorValues {
+    ghost slots = { λ values. values };
+
+    fn fill(&self, out: &mut [u16; 4]) {
+        *out = *self;
+    }
+}
+
+// Puts an answer into its slots. If it is a refusal, they stay as they were. The number of slots is tested before the answer is made.
+#[inline(always)]
+pub(crate) fn put<const N: usize, T, E, F>(out: &mut [u16], make: F) -> Result<(), Refusal>
+where
+    T: Slots<N>,
+    E: Into<Refusal> + Drop,
+    F: FnOnce() -> Result<T, E> + Drop,
+    requires few { N ≤ 4 }
+    requires callable { F.IsAlwaysCallable make }
+    ensures { (number : E → ℕ) → ((e : E) (r : _) → E.converts e r → number_of r ≡ number e)
+        → (a : Answer (List ℕ)) → ((r : Result T E) → F.post make r → answer T.slots number r ≡ a)
+        → (status_number result ≡ refusal_number (asked N out.old a)) × (out.new ≡ filled (λ l. l) out.old (asked N out.old a)) }
 {
-    out[0] = a;
-    out[1] = b;
-    out[2] = c;
-    out[3] = d;
+    let out = out.as_mut_array::<N>().ok_or(Refusal::WrongLength)?;
+    make().map_err(E::into)?.fill(out);
+    Ok(())
 }
 
 // The timing in four slots.
-pub(crate) fn timing_at(slots: &[u16]) -> DshotTiming
-    requires { length slots.now ≡ 4 }
+pub(crate) fn timing_at(slots: &[u16; 4]) -> DshotTiming
     ensures { timing_of result ≡ timing_at slots.now }
 {
     DshotTiming {
@@ -36,4 +73,18 @@ pub(crate) fn timing_at(slots: &[u16]) -> DshotTiming
         one_high: slots[2],
         reply_sample_arr: slots[3],
     }
+}
+
+// The low sixteen bits of a number.
+pub(crate) fn low(number: u32) -> u16
+    ensures { result ≡ number % 65536 }
+{
+    (number % 65536) as u16
+}
+
+// The high sixteen bits.
+pub(crate) fn high(number: u32) -> u16
+    ensures { result ≡ number / 65536 }
+{
+    (number / 65536) as u16
 }

@@ -1,29 +1,21 @@
--- `kuzhenga::command::kuzhenga_throttles_to_dshot` meets its contract.
+-- `kuzhenga::command::kuzhenga_throttles_to_dshot` puts the slots of its answer.
 -- Assumes nothing.
 use mathlib.Core.Path.{◌≡◌, ap, ◌∙◌}
-use mathlib.Core.List.{List}
-use Prim.Native.Nat.{ℕ}
-use lib.ListN.{length}
-use Rattle.dshot_spec.specs.Tabulate.{tabulate}
-use Rattle.dshot_spec.specs.Throttle.{throttle_values}
-use Rattle.dshot_reply_spec.proofs.Answered.{refused-so, given_so}
-use Rattle.kuzhenga.proofs.SlotLaws.{asked-not, asked-so, entries}
 use borrow.Author.Rules.{rules}
+use Prim.Native.Nat.{ℕ}
+use mathlib.Core.List.{List}
+use Rattle.dshot_reply_spec.specs.Answer.{given}
+use Rattle.dshot_reply_spec.specs.Refusals.{wrong_length}
+use Rattle.dshot_reply.specs.Answers.{answer}
+use Rattle.dshot_spec.specs.Throttle.{throttle_values}
+use Rattle.kuzhenga.specs.Slots.{asked}
+use Rattle.kuzhenga.proofs.SlotLaws.{answered, asked-both, put-so, slots-of}
 use Rattle.kuzhenga.proofs.command.kuzhenga_throttles_to_dshot.Goals as goal
 
-pub returns-then-values-ne4 : goal.returns-then-values-ne4
-returns-then-values-ne4 c =
-    let all = refused-so (λ (l : List ℕ). l) _ (asked-not _ 4 _ c.if-values-ne4.true) in record { value = c.number.ensures ∙ all.0; out_after = all.1 }
-
-pub returns-then-out-ne4 : goal.returns-then-out-ne4
-returns-then-out-ne4 c =
-    let all = refused-so (λ (l : List ℕ). l) _ (asked-so _ 4 _ c.if-values-ne4.false ∙ asked-not _ 4 _ c.if-out-ne4.true) in record { value = c.number-then-out-ne4.ensures ∙ all.0; out_after = all.1 }
-
 pub returns : goal.returns
-unfolding tabulate
 returns c =
     let a = c.args in
-    let made = c.throttles_to_dshot-made.result in
-    let four : length made ≡ 4 = search rules in
-    let all = given_so (λ (l : List ℕ). l) a.out.now (asked-so a.values.now 4 _ c.if-values-ne4.false ∙ asked-so a.out.now 4 _ c.if-out-ne4.false)
-    (c.put_four.ensures ∙ entries made 4 four ∙ c.throttles_to_dshot-made.ensures ∙ ap (throttle_values 4) c.four_values.ensures) in record { value = all.0; out_after = all.1 }
+    let told = asked 4 a.values.now (given (throttle_values 4 a.values.now)) in
+    let all = put-so (λ (l : List ℕ). l) told _ _ 4 (asked-both _ _ 4 4 _) (c.put.ensures (λ _. wrong_length) (λ e r h. h) (slots-of (λ (l : List ℕ). l) told)
+    (λ r h. let k : answer (λ (l : List ℕ). l) (λ _. wrong_length) r ≡ told = search rules in answered (λ (l : List ℕ). l) (λ (l : List ℕ). l) (λ _. wrong_length) r ∙ ap (slots-of (λ (l : List ℕ). l)) k)) in
+    record { value = c.status_number.ensures ∙ all.0; out_after = all.1 }

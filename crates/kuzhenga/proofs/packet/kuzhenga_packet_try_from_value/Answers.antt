@@ -1,29 +1,28 @@
--- `kuzhenga::packet::kuzhenga_packet_try_from_value` meets its contract.
+-- `kuzhenga::packet::kuzhenga_packet_try_from_value` puts the slots of its answer.
 -- Assumes nothing.
-use mathlib.Core.Path.{refl, sym, ap, ◌∙◌}
+use mathlib.Core.Path.{◌≡◌, refl, ap, ◌∙◌}
+use borrow.Author.Rules.{rules}
 use native.Mathlib.Omega.{arith}
-use borrow.Author.Tests.{lt-ltb}
+use Rattle.std.proofs.lemmas.Bool.Decides.{nat_tests}
+use Prim.Native.Nat.{ℕ, min}
+use mathlib.Core.Bool.{Bool, not}
+use lib.Dec.{eqb}
+use Rattle.dshot.specs.Answers.{frame_error_number, packet_answer}
+use Rattle.dshot.specs.declared.DshotPacket.{DshotPacket}
 use Rattle.dshot_spec.specs.Packet.{try_packet}
-use Rattle.dshot.specs.Answers.{packet_answer}
 use Rattle.kuzhenga.specs.Slots.{one}
-use Rattle.dshot_reply_spec.proofs.Answered.{refused-so}
-use Rattle.kuzhenga.proofs.SlotLaws.{asked-so, wrong-length, done, passed_on}
+use Rattle.kuzhenga.proofs.SlotLaws.{answered, put-so, slots-of}
 use Rattle.kuzhenga.proofs.packet.kuzhenga_packet_try_from_value.Goals as goal
 
-pub returns-then-packet-ne1 : goal.returns-then-packet-ne1
-returns-then-packet-ne1 c =
-    let all = wrong-length one _ _ c.if-packet-ne1.true in record { value = c.number.ensures ∙ all.0; packet_after = all.1 }
-
-pub returns-then-value-gt65535 : goal.returns-then-value-gt65535
+-- a value of more than sixteen bits is refused like the largest that has no more
+narrow : (v : ℕ) (t : Bool) → try_packet (min v 65535) t ≡ try_packet v t
 unfolding try_packet
-returns-then-value-gt65535 c =
+narrow v t = grind (arith, nat_tests)
+
+pub returns : goal.returns
+returns c =
     let a = c.args in
-    let all = refused-so one _ (asked-so _ 1 _ c.if-packet-ne1.false ∙ rw (lt-ltb 2047 a.value (omega arith))) in record { value = c.number-then-value-gt65535.ensures ∙ all.0; packet_after = all.1 }
-
-pub returns-in-Ok : goal.returns-in-Ok
-returns-in-Ok c =
-    let all = done one _ c.if-packet-ne1.false (sym (ap packet_answer c.in-Ok.is) ∙ c.try_from_value.ensures) refl in record { value = all.0; packet_after = all.1 }
-
-pub returns-in-Err : goal.returns-in-Err
-returns-in-Err c =
-    let all = passed_on one _ c.if-packet-ne1.false (sym (ap packet_answer c.in-Err.is) ∙ c.try_from_value.ensures) (c.number-in-Err.ensures ∙ c.from.ensures) refl in record { value = all.0; packet_after = all.1 }
+    let told = try_packet a.value (not (eqb a.telemetry 0)) in
+    let all = put-so one told _ _ 1 refl (c.put.ensures frame_error_number (λ e r h. h) (slots-of one told)
+    (λ r h. let k : packet_answer r ≡ try_packet (min a.value 65535) (not (eqb a.telemetry 0)) = search rules in answered one (λ (p : DshotPacket). p.0) frame_error_number r ∙ ap (slots-of one) (k ∙ narrow a.value _))) in
+    record { value = c.status_number.ensures ∙ all.0; packet_after = all.1 }

@@ -1,24 +1,17 @@
--- `kuzhenga::reply::kuzhenga_decode_gcr` answers as `decode_word`, with the value in its one slot; lent another number of slots, it answers 13.
+-- `kuzhenga::reply::kuzhenga_decode_gcr` puts the slots of its answer.
 -- Assumes nothing.
-use mathlib.Core.Path.{refl, sym, ap, ◌∙◌}
-use Rattle.dshot_reply.specs.Answers.{number_answer}
+use mathlib.Core.Path.{◌≡◌, refl, ap, ◌∙◌}
+use borrow.Author.Rules.{rules}
+use Rattle.dshot_reply.specs.Answers.{error_number, number_answer}
+use Rattle.dshot_reply_spec.specs.Gcr.{decode_word}
 use Rattle.kuzhenga.specs.Slots.{one}
-use Rattle.kuzhenga.proofs.SlotLaws.{wrong-length, done, passed_on}
+use Rattle.kuzhenga.proofs.SlotLaws.{answered, put-so, slots-of}
 use Rattle.kuzhenga.proofs.reply.kuzhenga_decode_gcr.Goals as goal
 
-pub returns-then-value-ne1 : goal.returns-then-value-ne1
-returns-then-value-ne1 c =
-    let all = wrong-length one _ _ c.if-value-ne1.true in record { value = c.number.ensures ∙ all.0; value_after = all.1 }
-
-pub returns-in-Ok : goal.returns-in-Ok
-returns-in-Ok c =
-    let all = done one _ c.if-value-ne1.false
-    (sym (ap number_answer c.in-Ok.is) ∙ c.decode_gcr.ensures)
-    refl in record { value = all.0; value_after = all.1 }
-
-pub returns-in-Err : goal.returns-in-Err
-returns-in-Err c =
-    let all = passed_on one _ c.if-value-ne1.false
-    (sym (ap number_answer c.in-Err.is) ∙ c.decode_gcr.ensures)
-    (c.number-in-Err.ensures ∙ c.from.ensures)
-    refl in record { value = all.0; value_after = all.1 }
+pub returns : goal.returns
+returns c =
+    let a = c.args in
+    let told = decode_word a.transitions in
+    let all = put-so one told _ _ 1 refl (c.put.ensures error_number (λ e r h. h) (slots-of one told)
+    (λ r h. let k : number_answer r ≡ told = search rules in answered one (λ n. n) error_number r ∙ ap (slots-of one) k)) in
+    record { value = c.status_number.ensures ∙ all.0; value_after = all.1 }

@@ -1,24 +1,17 @@
--- `kuzhenga::reply::kuzhenga_period_value` answers as `period_value`, with the value in its one slot; lent another number of slots, it answers 13.
+-- `kuzhenga::reply::kuzhenga_period_value` puts the slots of its answer.
 -- Assumes nothing.
-use mathlib.Core.Path.{refl, sym, ap, ◌∙◌}
-use Rattle.dshot_reply.specs.Answers.{period_answer}
+use mathlib.Core.Path.{◌≡◌, refl, ap, ◌∙◌}
+use borrow.Author.Rules.{rules}
+use Rattle.dshot_reply.specs.Answers.{simulate_error_number, period_answer}
+use Rattle.dshot_reply_spec.specs.Period.{period_value}
 use Rattle.kuzhenga.specs.Slots.{one}
-use Rattle.kuzhenga.proofs.SlotLaws.{wrong-length, done, passed_on}
+use Rattle.kuzhenga.proofs.SlotLaws.{answered, put-so, slots-of}
 use Rattle.kuzhenga.proofs.reply.kuzhenga_period_value.Goals as goal
 
-pub returns-then-value-ne1 : goal.returns-then-value-ne1
-returns-then-value-ne1 c =
-    let all = wrong-length one _ _ c.if-value-ne1.true in record { value = c.number.ensures ∙ all.0; value_after = all.1 }
-
-pub returns-in-Ok : goal.returns-in-Ok
-returns-in-Ok c =
-    let all = done one _ c.if-value-ne1.false
-    (sym (ap period_answer c.in-Ok.is) ∙ c.period_value.ensures)
-    refl in record { value = all.0; value_after = all.1 }
-
-pub returns-in-Err : goal.returns-in-Err
-returns-in-Err c =
-    let all = passed_on one _ c.if-value-ne1.false
-    (sym (ap period_answer c.in-Err.is) ∙ c.period_value.ensures)
-    (c.number-in-Err.ensures ∙ c.from.ensures)
-    refl in record { value = all.0; value_after = all.1 }
+pub returns : goal.returns
+returns c =
+    let a = c.args in
+    let told = period_value a.period_us in
+    let all = put-so one told _ _ 1 refl (c.put.ensures simulate_error_number (λ e r h. h) (slots-of one told)
+    (λ r h. let k : period_answer r ≡ told = search rules in answered one (λ n. n) simulate_error_number r ∙ ap (slots-of one) k)) in
+    record { value = c.status_number.ensures ∙ all.0; value_after = all.1 }

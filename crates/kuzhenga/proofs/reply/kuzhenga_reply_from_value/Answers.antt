@@ -1,18 +1,20 @@
--- `kuzhenga::reply::kuzhenga_reply_from_value` answers as `reply_of`, with the reading in its three slots; lent another number of slots, it answers 13.
+-- `kuzhenga::reply::kuzhenga_reply_from_value` puts the slots of its answer.
 -- Assumes nothing.
-use mathlib.Core.Path.{◌∙◌}
+use mathlib.Core.Path.{◌≡◌, refl, ap, ◌∙◌}
+use borrow.Author.Rules.{rules}
+use Prim.Native.Nat.{◌%◌}
+use mathlib.Core.Bool.{not}
+use lib.Dec.{eqb}
+use Rattle.dshot_reply.specs.Answers.{reading, error_number, reply_answer}
+use Rattle.dshot_reply_spec.specs.Value.{reply_of}
 use Rattle.kuzhenga.specs.Slots.{reading_slots}
-use Rattle.kuzhenga.proofs.SlotLaws.{wrong-length, passed_on}
+use Rattle.kuzhenga.proofs.SlotLaws.{answered, put-so, slots-of}
 use Rattle.kuzhenga.proofs.reply.kuzhenga_reply_from_value.Goals as goal
-
-pub returns-then-out-ne3 : goal.returns-then-out-ne3
-returns-then-out-ne3 c =
-    let all = wrong-length reading_slots _ _ c.if-out-ne3.true in record { value = c.number.ensures ∙ all.0; out_after = all.1 }
 
 pub returns : goal.returns
 returns c =
-    let p = c.put_reply.ensures in
-    let all = passed_on reading_slots _ c.if-out-ne3.false
-    c.from_value.ensures
-    p.value
-    p.out_after in record { value = all.0; out_after = all.1 }
+    let a = c.args in
+    let told = reply_of (a.value % 4096) (not (eqb a.extended_telemetry 0)) in
+    let all = put-so reading_slots told _ _ 3 refl (c.put.ensures error_number (λ e r h. h) (slots-of reading_slots told)
+    (λ r h. let k : reply_answer r ≡ told = search rules in answered reading_slots reading error_number r ∙ ap (slots-of reading_slots) k)) in
+    record { value = c.status_number.ensures ∙ all.0; out_after = all.1 }
