@@ -7,6 +7,5 @@ pub mod Parts
 pub mod Sent
 pub mod Tags
 pub mod Told
-pub mod Unfit
 pub mod View
 pub mod Windows

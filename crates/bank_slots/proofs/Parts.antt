@@ -28,9 +28,9 @@ zeroed {z} k n xs e h =
     let size : length (mid_of k n xs) ≡ n = simp (length-take, length-drop) (omega arith) in
     ap (put_mid k n xs) (e ∙ ap (λ (j : ℕ). replicate j 0) size) ∙ put-part k n xs (replicate n 0) (length-replicate n 0) h
 
-pub bit-is : (b : Bool) → from_bool b ≡ bit b
-bit-is true = refl
-bit-is false = refl
+pub bit_is : (b : Bool) → from_bool b ≡ bit b
+bit_is true = refl
+bit_is false = refl
 
 -- a lane's part of a buffer that holds w slots for each
 pub part-is : (w lane : ℕ) (xs : List ℕ) → take (w * lane + w - w * lane) (drop (w * lane) xs) ≡ part w lane xs

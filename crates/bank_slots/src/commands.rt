@@ -4,6 +4,8 @@
 //
 // The calls that make a bank and command it: demands, runs of special commands, and telemetry requests.
 
+#![tactic(auto, unfolding(bank_slots_spec::specs::Called::answer_of, bank_slots_spec::specs::Called::bank_after, bank_slots_spec::specs::Outs::out_after))]
+
 ghost use Rattle.std.specs.Prelude.{◌≡◌, true, nat_lt, if◌then◌else◌};
 ghost use Rattle.std.specs.List.{list_any};
 ghost use Rattle.dshot_reply_spec.specs.Refusals.{wrong_length};
@@ -132,6 +134,7 @@ pub fn command_throttles(
 
 // ---- runs of commands
 
+#[tactic(auto, unfolding(bank_slots_spec::specs::Load::load), using(dshot_bank::proofs::LaneTests::any_is))]
 fn is_running(state: &[u16; SLOTS]) -> bool
     ensures { result ≡ is_running (load state.now).core.demand }
 {

@@ -76,6 +76,7 @@ fn window_closed(state: &mut [u16; SLOTS])
 }
 
 // A bidirectional frame set has transmitted.
+#[tactic(auto, unfolding(bank_slots_spec::specs::Load::load))]
 fn opens_window(state: &[u16; SLOTS]) -> bool
     ensures { result ≡ opens_window (load state.now).core.frame }
 {
@@ -195,6 +196,7 @@ fn handle(
     after_lane(state, motor, answers, out);
 }
 
+#[tactic(auto, unfolding(bank_slots_spec::specs::Called::answer_of, bank_slots_spec::specs::Called::bank_after, bank_slots_spec::specs::Outs::out_after))]
 // `turned` and `turned_back` of the answers each count only if the Rust would ask for them. The answer takes nine slots: the event, the number of
 // orders, and the orders.
 pub fn on_dma_interrupt(

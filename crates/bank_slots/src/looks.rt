@@ -4,6 +4,8 @@
 //
 // The calls that only look at a bank, the taking of its replies, and the view of the sequence that a lane is sending.
 
+#![tactic(auto, unfolding(bank_slots_spec::specs::Called::answer_of, bank_slots_spec::specs::Called::bank_after, bank_slots_spec::specs::Outs::out_after))]
+
 ghost use Rattle.std.specs.Prelude.{◌≡◌, ◌+◌, ◌<◌, [], ◌∷◌, length, if◌then◌else◌};
 ghost use Rattle.dshot_reply_spec.specs.Answer.{refused};
 ghost use Rattle.dshot_reply_spec.specs.Refusals.{no_reply, wrong_length};
@@ -35,6 +37,7 @@ use dshot_reply::{DshotReply, DshotReplyError};
 
 // ---- flags and values
 
+#[tactic(auto, using(crate::proofs::Parts::bit_is))]
 // Copies the flag in a slot of the bank into one slot, as 0 or 1.
 fn look_flag(bank: &[u16], k: usize, out: &mut [u16]) -> Result<(), Refusal>
     requires { k < slots }
@@ -43,7 +46,7 @@ fn look_flag(bank: &[u16], k: usize, out: &mut [u16]) -> Result<(), Refusal>
 {
     let state = bank.as_array::<SLOTS>().ok_or(Refusal::WrongLength)?;
     let out = out.as_mut_array::<1>().ok_or(Refusal::WrongLength)?;
-    out[0] = u16::from(flag(state[k]));
+    *out = [u16::from(flag(state[k]))];
     Ok(())
 }
 

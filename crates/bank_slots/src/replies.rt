@@ -3,12 +3,13 @@
 //
 // The replies of the last receive window, and their counts. A lane takes nine slots: the reply's kind and number, and three counts.
 
-ghost use Rattle.std.specs.Prelude.{◌≡◌, ◌+◌, ◌<◌, slice_index};
+ghost use Rattle.std.specs.Prelude.{◌≡◌, ◌+◌, ◌*◌, ◌<◌, slice_index};
 ghost use Rattle.dshot_reply.specs.Answers.{error_number, reply_answer};
 ghost use Rattle.dshot_bank_spec.specs.State.{Bank};
 ghost use Rattle.dshot_bank_spec.specs.Replies.{window, read_window, count_reply, decode_replies};
 ghost use Rattle.bank_slots_spec.specs.Memory.{at, write};
 ghost use Rattle.bank_slots_spec.specs.Places.{slots};
+ghost use Rattle.bank_slots_spec.specs.Places as Places;
 ghost use Rattle.bank_slots_spec.specs.Store.{reply_kind, reply_number, lane_rows};
 ghost use Rattle.bank_slots_spec.specs.Load as Load;
 ghost use Rattle.bank_slots_spec.specs.Moves.{Moves};
@@ -84,19 +85,18 @@ fn count_reply(state: &mut [u16; SLOTS], k: usize, read: Result<DshotReply, Dsho
     put_lane(state, k, read, before.counting(StoredReply::from(read)));
 }
 
-// Reads and counts the window of a lane whose slots begin at `k`. Extended telemetry is not enabled yet, so every value except its acknowledgement is
-// read as eRPM.
+// Reads and counts the window of a lane. Extended telemetry is not enabled yet, so every value except its acknowledgement is read as eRPM.
 #[inline(always)]
 fn decode_lane(
     state: &mut [u16; SLOTS],
-    k: usize,
     lane: usize,
     lanes: &[u16; LANES_SLOTS],
     captures: &Samples,
 )
-    requires { (k + 8 < slots) × (lane < 4) }
-    ensures { state.new ≡ write (lane_rows k (count_reply (read_window (Load.flag (slice_index lanes.now (4 + lane))) (window captures.now lane) (slice_index lanes.now (8 + lane))) (lane_from k (at state.old)))) state.old }
+    requires { lane < 4 }
+    ensures { state.new ≡ write (lane_rows (Places.REPLIES + 9 * lane) (count_reply (read_window (Load.flag (slice_index lanes.now (4 + lane))) (window captures.now lane) (slice_index lanes.now (8 + lane))) (lane_from (Places.REPLIES + 9 * lane) (at state.old)))) state.old }
 {
+    let k = REPLIES + PER_LANE * lane;
     if !flag(lanes[4 + lane]) {
         count_reply(state, k, Err(DshotReplyError::NoReply));
         return;
@@ -111,7 +111,7 @@ fn decode_replies(state: &mut [u16; SLOTS], lanes: &[u16; LANES_SLOTS], captures
     ensures { Moves (λ (b : Bank). with_replies (decode_replies 4 (present lanes.now) (masks lanes.now) captures.now b.replies) b) state.old state.new }
 {
     for lane in 0..LANES {
-        decode_lane(state, REPLIES + PER_LANE * lane, lane, lanes, captures);
+        decode_lane(state, lane, lanes, captures);
     }
 }
 

@@ -70,6 +70,7 @@ fn next_command_frame(state: &mut [u16; SLOTS]) -> FrameCommand
 
 // ---- what is sent
 
+#[tactic(auto, unfolding(bank_slots_spec::specs::Load::load))]
 // A special command needs the telemetry bit on its own lane, so a pending telemetry request waits for the next ordinary frame.
 fn frame_set(state: &[u16; SLOTS], command: FrameCommand) -> FrameSet
     ensures { Sets result (load state.now).core (motor_command_of command) }
@@ -86,6 +87,7 @@ fn frame_set(state: &[u16; SLOTS], command: FrameCommand) -> FrameSet
     }
 }
 
+#[tactic(auto, unfolding(bank_slots_spec::specs::Load::load))]
 fn timing_at(state: &[u16; SLOTS]) -> DshotTiming
     ensures { timing_of result ≡ (load state.now).core.timing }
 {

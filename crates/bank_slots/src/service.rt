@@ -32,6 +32,7 @@ use dshot_bank::service::DshotServiceEvent;
 use dshot_bank::{DSHOT_FRAME_TIMEOUT_MS, Samples, Slots};
 use dshot_reply::refusals::Refusal;
 
+#[tactic(auto, unfolding(bank_slots_spec::specs::Load::load, dshot_bank_spec::specs::Service::demand_expired, dshot_spec::specs::Lease::lease_expired))]
 fn expired(state: &[u16; SLOTS], now_ms: u64) -> bool
     ensures { result ≡ demand_expired now_ms (load state.now).core.demand }
 {

@@ -12,14 +12,7 @@ use mathlib.Core.Option.{some, none}
 use Rattle.dshot_reply.specs.Refusals.{status_number}
 use Rattle.dshot_bank.specs.States.{motor_of, motor_at}
 use Rattle.bank_slots.proofs.Motors.{motor_small, found, missing}
-use Rattle.bank_slots.proofs.Unfit.{unfit, unfit-number}
 use Rattle.bank_slots.proofs.commands.command_special.Goals as goal
-
-pub returns-in_err-state : goal.returns-in_err-state
-returns-in_err-state c = record { value = λ b. unfit-number _ _ (search rules) (search rules); called = λ b. unfit (search rules) (search rules) (search rules) }
-
-pub returns-in_err-sequence : goal.returns-in_err-sequence
-returns-in_err-sequence c = record { value = λ b. unfit-number _ _ (search rules) (search rules); called = λ b. unfit (search rules) (search rules) (search rules) }
 
 pub returns-in_err-motor : goal.returns-in_err-motor
 returns-in_err-motor c =

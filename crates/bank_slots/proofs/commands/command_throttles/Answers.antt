@@ -4,14 +4,7 @@ use Rattle.std.proofs.Common.{◌≡◌, rules}
 use Rattle.bank_slots_spec.proofs.CalledLaws.{with-answer}
 use Rattle.bank_slots_spec.proofs.CommandCalls.{throttles-faulted, throttles-high, throttles-stop, throttled}
 use Rattle.dshot_bank.proofs.LaneTests.{any_is}
-use Rattle.bank_slots.proofs.Unfit.{unfit, unfit-number}
 use Rattle.bank_slots.proofs.commands.command_throttles.Goals as goal
-
-pub returns-in_err-state : goal.returns-in_err-state
-returns-in_err-state c = record { value = λ b. unfit-number _ _ (search rules) (search rules); called = λ b. unfit (search rules) (search rules) (search rules) }
-
-pub returns-in_err-commands : goal.returns-in_err-commands
-returns-in_err-commands c = record { value = λ b. unfit-number _ _ (search rules) (search rules); called = λ b. unfit (search rules) (search rules) (search rules) }
 
 pub returns-then-flag : goal.returns-then-flag
 returns-then-flag c =

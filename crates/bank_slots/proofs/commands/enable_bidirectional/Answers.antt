@@ -3,11 +3,7 @@
 use Rattle.std.proofs.Common.{◌≡◌, ap, not, rules}
 use Rattle.bank_slots_spec.proofs.CalledLaws.{with-answer}
 use Rattle.bank_slots_spec.proofs.CommandCalls.{enable-refused, enabled}
-use Rattle.bank_slots.proofs.Unfit.{unfit, unfit-number}
 use Rattle.bank_slots.proofs.commands.enable_bidirectional.Goals as goal
-
-pub returns-in_err-state : goal.returns-in_err-state
-returns-in_err-state c = record { value = λ b. unfit-number _ _ (search rules) (search rules); called = λ b. unfit (search rules) (search rules) (search rules) }
 
 pub returns-then-not-receives_replies : goal.returns-then-not-receives_replies
 returns-then-not-receives_replies c =

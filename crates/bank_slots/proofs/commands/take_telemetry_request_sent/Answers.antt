@@ -2,15 +2,8 @@
 -- Assumes nothing.
 use Rattle.std.proofs.Common.{◌≡◌, rules}
 use Rattle.bank_slots_spec.proofs.CommandCalls.{sent-taken, sent-told}
-use Rattle.bank_slots.proofs.Unfit.{unfit, unfit-out}
 use Rattle.bank_slots_spec.proofs.FaultMoves.{sent-cleared}
 use Rattle.bank_slots.proofs.commands.take_telemetry_request_sent.Goals as goal
-
-pub returns-in_err-state : goal.returns-in_err-state
-returns-in_err-state c = record { called = λ b. unfit (search rules) (search rules) (search rules); out_after = λ b. unfit-out _ _ (search rules) (search rules) }
-
-pub returns-in_err-out : goal.returns-in_err-out
-returns-in_err-out c = record { called = λ b. unfit (search rules) (search rules) (search rules); out_after = λ b. unfit-out _ _ (search rules) (search rules) }
 
 pub returns : goal.returns
 returns c =

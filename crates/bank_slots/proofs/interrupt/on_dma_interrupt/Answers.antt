@@ -6,14 +6,7 @@ use Rattle.dshot_bank.specs.States.{motor_of, motor_at}
 use Rattle.dshot_reply.specs.Refusals.{status_number}
 use Rattle.bank_slots_spec.proofs.InterruptMoves.{call-refused, call-done}
 use Rattle.bank_slots.proofs.Motors.{motor_small, found, missing}
-use Rattle.bank_slots.proofs.Unfit.{unfit, unfit-out}
 use Rattle.bank_slots.proofs.interrupt.on_dma_interrupt.Goals as goal
-
-pub returns-in_err-state : goal.returns-in_err-state
-returns-in_err-state c = record { called = λ b. unfit (search rules) (search rules) (search rules); out_after = λ b. unfit-out _ _ (search rules) (search rules) }
-
-pub returns-in_err-out : goal.returns-in_err-out
-returns-in_err-out c = record { called = λ b. unfit (search rules) (search rules) (search rules); out_after = λ b. unfit-out _ _ (search rules) (search rules) }
 
 pub returns-in_err-motor : goal.returns-in_err-motor
 returns-in_err-motor c =

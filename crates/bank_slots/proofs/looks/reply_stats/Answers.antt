@@ -5,14 +5,7 @@ use Rattle.dshot_bank_spec.specs.Lanes.{each}
 use Rattle.bank_slots_spec.specs.Memory.{write, word_rows}
 use Rattle.dshot_bank_spec.proofs.LaneLaws.{each_none, each_more, each_all}
 use Rattle.bank_slots.proofs.Copied.{counts_copied, all-copied}
-use Rattle.bank_slots.proofs.Unfit.{unfit-number, unfit-out}
 use Rattle.bank_slots.proofs.looks.reply_stats.Goals as goal
-
-pub returns-in_err-state : goal.returns-in_err-state
-returns-in_err-state c = record { value = λ b. unfit-number _ _ (search rules) (search rules); out_after = λ b. unfit-out _ _ (search rules) (search rules) }
-
-pub returns-in_err-out : goal.returns-in_err-out
-returns-in_err-out c = record { value = λ b. unfit-number _ _ (search rules) (search rules); out_after = λ b. unfit-out _ _ (search rules) (search rules) }
 
 pub loop-count-init : goal.loop-count-init
 loop-count-init c = each_none _ _

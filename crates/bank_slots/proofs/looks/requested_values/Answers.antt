@@ -1,19 +1,12 @@
 -- `bank_slots::looks::requested_values` meets its contract: it is refused, or gives the four values in four slots.
 -- Assumes nothing.
 use Rattle.std.proofs.Common.{◌≡◌, ℕ, ◌+◌, length, sym, ◌∙◌, rules}
-use Rattle.bank_slots.proofs.Unfit.{unfit-number, unfit-out}
 use Rattle.bank_slots_spec.specs.Memory.{at}
 use Rattle.bank_slots_spec.specs.Places.{VALUES}
 use Rattle.bank_slots_spec.specs.Load.{four, load}
 use Rattle.bank_slots_spec.proofs.FillLaws.{filled}
 use Rattle.bank_slots_spec.proofs.LookLaws.{values-told}
 use Rattle.bank_slots.proofs.looks.requested_values.Goals as goal
-
-pub returns-in_err-state : goal.returns-in_err-state
-returns-in_err-state c = record { value = λ b. unfit-number _ _ (search rules) (search rules); out_after = λ b. unfit-out _ _ (search rules) (search rules) }
-
-pub returns-in_err-out : goal.returns-in_err-out
-returns-in_err-out c = record { value = λ b. unfit-number _ _ (search rules) (search rules); out_after = λ b. unfit-out _ _ (search rules) (search rules) }
 
 pub returns : goal.returns
 unfolding load

@@ -4,16 +4,17 @@ use Rattle.std.proofs.Common.{◌≡◌, sym, rules}
 use Rattle.dshot_reply.specs.Refusals.{status_number}
 use Rattle.dshot_reply_spec.specs.Answer.{pick}
 use Rattle.dshot_bank_spec.specs.State.{Buffers}
-use Rattle.bank_slots.proofs.Unfit.{unfit-number, unfit-out}
 use Rattle.bank_slots.proofs.View.{unfit-view, missing-view, shown-view}
 use Rattle.bank_slots.proofs.looks.sending.Goals as goal
 use Rattle.bank_slots.proofs.looks.sending.Goals.{then-in_second, else-in_second}
 
-pub returns-in_err-state : goal.returns-in_err-state
-returns-in_err-state c = record { value = unfit-number _ _ (search rules) (search rules); out_after = unfit-out _ _ (search rules) (search rules) }
-
-pub returns-in_err-out : goal.returns-in_err-out
-returns-in_err-out c = record { value = unfit-number _ _ (search rules) (search rules); out_after = unfit-out _ _ (search rules) (search rules) }
+pub returns-then-motor-ge-LANES : goal.returns-then-motor-ge-LANES
+returns-then-motor-ge-LANES c =
+    let a = c.args in
+    let b : Buffers = record { first = a.first.now; second = a.second.now } in
+    let o : c.in_ok-out.out.now ≡ a.out.now = search rules in
+    let all = missing-view a.bank.now a.out.now b a.motor (search rules) (search rules) (search rules) c.if-motor-ge-LANES.true in
+    rw (o) (record { value = all.0; out_after = all.1 })
 
 pub returns-in_err-first : goal.returns-in_err-first
 returns-in_err-first c =
@@ -32,14 +33,6 @@ returns-in_err-second c =
     let r : status_number c.from_residual-in_err-second.result ≡ 13 = search rules in
     let all = unfit-view a.bank.now a.out.now b a.motor (search rules) (search rules) (search rules) in
     rw (o, r) (record { value = all.0; out_after = all.1 })
-
-pub returns-then-motor-ge-LANES : goal.returns-then-motor-ge-LANES
-returns-then-motor-ge-LANES c =
-    let a = c.args in
-    let b : Buffers = record { first = a.first.now; second = a.second.now } in
-    let o : c.in_ok-out.out.now ≡ a.out.now = search rules in
-    let all = missing-view a.bank.now a.out.now b a.motor (search rules) (search rules) (search rules) c.if-motor-ge-LANES.true in
-    rw (o) (record { value = all.0; out_after = all.1 })
 
 pub returns : goal.returns
 returns c =

@@ -1,15 +1,8 @@
 -- `bank_slots::looks::stats` meets its contract: the counts: refused, or copied as they stand.
 -- Assumes nothing.
 use Rattle.std.proofs.Common.{◌≡◌, arith, rules}
-use Rattle.bank_slots.proofs.Unfit.{unfit-number, unfit-out}
 use Rattle.bank_slots_spec.proofs.LookLaws.{stats-told}
 use Rattle.bank_slots.proofs.looks.stats.Goals as goal
-
-pub returns-in_err-state : goal.returns-in_err-state
-returns-in_err-state c = record { value = λ b. unfit-number _ _ (search rules) (search rules); out_after = λ b. unfit-out _ _ (search rules) (search rules) }
-
-pub returns-in_err-out : goal.returns-in_err-out
-returns-in_err-out c = record { value = λ b. unfit-number _ _ (search rules) (search rules); out_after = λ b. unfit-out _ _ (search rules) (search rules) }
 
 pub returns : goal.returns
 returns c =

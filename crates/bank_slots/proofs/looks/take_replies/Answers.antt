@@ -13,16 +13,9 @@ use Rattle.bank_slots_spec.specs.Parts.{slot_rows}
 use Rattle.dshot_bank_spec.specs.Lanes.{each}
 use Rattle.dshot_bank_spec.proofs.LaneLaws.{on, off, each_none, each_more, each_all}
 use Rattle.bank_slots.proofs.Copied.{reply_handed, all-handed}
-use Rattle.bank_slots.proofs.Parts.{bit-is}
-use Rattle.bank_slots.proofs.Unfit.{unfit, unfit-out}
+use Rattle.bank_slots.proofs.Parts.{bit_is}
 use Rattle.bank_slots.proofs.looks.take_replies.Goals as goal
 use Rattle.bank_slots.proofs.looks.take_replies.Goals.{then-held, else-held}
-
-pub returns-in_err-state : goal.returns-in_err-state
-returns-in_err-state c = record { called = λ b. unfit (search rules) (search rules) (search rules); out_after = λ b. unfit-out _ _ (search rules) (search rules) }
-
-pub returns-in_err-out : goal.returns-in_err-out
-returns-in_err-out c = record { called = λ b. unfit (search rules) (search rules) (search rules); out_after = λ b. unfit-out _ _ (search rules) (search rules) }
 
 pub loop-lane-init : goal.loop-lane-init
 loop-lane-init c = each_none _ _
@@ -48,6 +41,6 @@ returns c =
       called = all.0;
       out_after = λ b.
           each_all _ _ (omega arith) c.loop-lane-test.false c.loop-lane.invariant
-          ∙ (λ j. each 4 (reply_handed (e j) c.flag-held.result) (set (o j) 0 ((c.from.ensures ∙ bit-is c.flag-held.result) j)))
+          ∙ (λ j. each 4 (reply_handed (e j) c.flag-held.result) (set (o j) 0 ((c.from.ensures ∙ bit_is c.flag-held.result) j)))
           ∙ all.1 b;
     })
