@@ -105,12 +105,11 @@ fn next_value(sequence: &mut [u16], value: &mut [u16]) -> Result<(), Refusal>
     let sequence = sequence.as_mut_array::<4>().ok_or(Refusal::WrongLength)?;
     let value = value.as_mut_array::<2>().ok_or(Refusal::WrongLength)?;
     let Some(mut run) = run_at(sequence) else {
-        None.fill(value);
+        *value = [0, 0];
         return Ok(());
     };
-    let command = run.next_value();
+    run.next_value().fill(value);
     run.fill(sequence);
-    command.fill(value);
     Ok(())
 }
 

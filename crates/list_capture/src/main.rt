@@ -97,10 +97,8 @@ fn fail(rt: &HostRuntime, what: &str, error: Error) {
 
 // An error of the system is written as its text and then its number, as in `Is a directory (os error 21)`.
 fn without_number(text: &str) -> &str {
-    match text.rsplit_once(" (os error ") {
-        Some((words, _)) => words,
-        None => text,
-    }
+    text.rsplit_once(" (os error ")
+        .map_or(text, |(words, _)| words)
 }
 
 fn say(rt: &HostRuntime, what: &str, why: &str) {
