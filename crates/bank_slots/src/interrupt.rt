@@ -83,11 +83,11 @@ fn opens_window(state: &[u16; SLOTS]) -> bool
     flag(state[BIDIRECTIONAL]) && !flag(state[RECEIVING])
 }
 
-// The order to pause the lane's stream. The sum is a `usize`, which costs each interrupt one instruction less.
+// The order to pause the lane's stream.
 fn pause(motor: DshotMotor) -> u16
     ensures { result ≡ 48 + motor_of motor }
 {
-    (usize::from(PAUSE_AND_CLEAR) + motor.index()) as u16
+    PAUSE_AND_CLEAR + motor as u16
 }
 
 // Only the lane's pause.

@@ -37,10 +37,7 @@ fn expired(state: &[u16; SLOTS], now_ms: u64) -> bool
     ensures { result ≡ demand_expired now_ms (load state.now).core.demand }
 {
     let lease = long_at(state, LEASE_OVER);
-    if lease == 0 {
-        return false;
-    }
-    now_ms.wrapping_sub(long_at(state, LEASE_STARTED)) >= lease
+    lease != 0 && now_ms.wrapping_sub(long_at(state, LEASE_STARTED)) >= lease
 }
 
 fn end_lease(state: &mut [u16; SLOTS])
@@ -85,11 +82,12 @@ fn serve_busy(
         tell(out, DshotServiceEvent::Faulted as u16, &[], &LATCH_ORDERS);
         return;
     }
-    if lease_expired {
-        tell_event(out, DshotServiceEvent::LeaseExpired);
-        return;
-    }
-    tell_event(out, DshotServiceEvent::Busy);
+    let event = if lease_expired {
+        DshotServiceEvent::LeaseExpired
+    } else {
+        DshotServiceEvent::Busy
+    };
+    tell_event(out, event);
 }
 
 fn serve(
