@@ -17,6 +17,7 @@ use capture_file::line::{LINE_ROOM, Line};
 use capture_file::list::file_line;
 use dshot_reply::refusals::{Refusal, status_number};
 
+#[tactic(auto, unfolding(crate::specs::Slots::asked), using(capture_file::proofs::ListLaws::count_fits))]
 fn read(file: &[u8], samples: &mut [u16], about: &mut [u16]) -> Result<(), Refusal>
     ensures value { status_number result ≡ refusal_number (asked 3 about.old (read_into file.now samples.old)) }
     ensures samples_after { samples.new
@@ -45,6 +46,7 @@ pub extern "C" fn kuzhenga_read_capture(file: &[u8], samples: &mut [u16], about:
     status_number(read(file, samples, about))
 }
 
+#[tactic(auto, unfolding(crate::specs::Slots::asked), using(crate::proofs::Cases::written_cases))]
 fn write(
     samples: &[u16],
     mask: u16,

@@ -56,6 +56,7 @@ pub extern "C" fn kuzhenga_packet_try_from_value(
 
 // Makes one packet at a time, and does not call `dshot` for all four. That function is inlined in the bank's sending, as long as nothing else calls
 // it.
+#[tactic(auto, unfolding(dshot_spec::specs::Packet::motor_packets), using(crate::proofs::Cases::filled_cases))]
 fn fill_packets(
     kind: ChecksumKind,
     values: &MotorValues,

@@ -46,6 +46,7 @@ impl Slots<4> for MotorValues {
 }
 
 // Puts an answer into its slots. If it is a refusal, they stay as they were. The number of slots is tested before the answer is made.
+// `few` bounds the bytes of the slots. No answer takes more than four.
 #[inline(always)]
 pub(crate) fn put<const N: usize, T, E, F>(out: &mut [u16], make: F) -> Result<(), Refusal>
 where
