@@ -17,6 +17,9 @@ use Rattle.dshot_reply.specs.declared.DshotReply.TheVariants.{Erpm, Temperature,
 use Rattle.dshot_reply.specs.declared.period.ValuePeriod.{ValuePeriod}
 use Rattle.dshot_reply.specs.declared.simulate.SimulateError.{SimulateError}
 use Rattle.dshot_reply.specs.declared.simulate.SimulateError.TheVariants.{PeriodOutOfRange, NoMask, WrongLength}
+use Rattle.dshot_reply.specs.Refusals.{refusal_number, status_number}
+use Rattle.dshot_reply.specs.declared.refusals.Refusal.{Refusal}
+use Rattle.dshot_reply.specs.declared.refusals.Refusal.TheVariants as Refusals
 
 -- ---- for any meaning of the value and any numbers of the errors that are taken back
 
@@ -118,3 +121,95 @@ period_answer-injective = answer-injective (λ n. n) (λ n. n) simulate_error_nu
 
 pub simulated_number-injective : (s t : Result Unit SimulateError) → simulated_number s ≡ simulated_number t → s ≡ t
 simulated_number-injective = status-injective simulate_error_number simulate_error_of simulate-error-positive simulate-error-back
+
+-- ---- all refusals
+
+refusal_of : ℕ → Refusal
+refusal_of n =
+    pick (eqb n 1) Refusals.ZeroTimerClock (
+    pick (eqb n 2) Refusals.ZeroBitrate (
+    pick (eqb n 3) Refusals.PeriodTooShort (
+    pick (eqb n 4) Refusals.PeriodTooLong (
+    pick (eqb n 5) Refusals.ValueOutOfRange (
+    pick (eqb n 6) Refusals.ThrottleOutOfRange (
+    pick (eqb n 7) Refusals.NoReply (
+    pick (eqb n 8) Refusals.Overlong (
+    pick (eqb n 9) Refusals.InvalidSymbol (
+    pick (eqb n 10) Refusals.WrongChecksum (
+    pick (eqb n 11) Refusals.ZeroPeriod (
+    pick (eqb n 12) Refusals.NoSuchMotor (
+    pick (eqb n 13) Refusals.WrongLength (
+    pick (eqb n 14) Refusals.WrongDuty (
+    pick (eqb n 15) Refusals.WrongPacketChecksum (
+    pick (eqb n 16) Refusals.PeriodOutOfRange (
+    pick (eqb n 17) Refusals.NotACapture (
+    pick (eqb n 18) Refusals.BankFaulted (
+    pick (eqb n 19) Refusals.MotorsRunning (
+    pick (eqb n 20) Refusals.CommandPending (
+    pick (eqb n 21) Refusals.TelemetryPending (
+    pick (eqb n 22) Refusals.RepliesUnsupported (
+    pick (eqb n 24) Refusals.BrokenDump (
+    pick (eqb n 25) Refusals.NotDeclaredOnce (
+    Refusals.TimeFalls))))))))))))))))))))))))
+
+refusal-back : (r : Refusal) → refusal_of (refusal_number r) ≡ r
+unfolding refusal_of
+refusal-back Refusals.ZeroTimerClock = refl
+refusal-back Refusals.ZeroBitrate = refl
+refusal-back Refusals.PeriodTooShort = refl
+refusal-back Refusals.PeriodTooLong = refl
+refusal-back Refusals.ValueOutOfRange = refl
+refusal-back Refusals.ThrottleOutOfRange = refl
+refusal-back Refusals.NoReply = refl
+refusal-back Refusals.Overlong = refl
+refusal-back Refusals.InvalidSymbol = refl
+refusal-back Refusals.WrongChecksum = refl
+refusal-back Refusals.ZeroPeriod = refl
+refusal-back Refusals.NoSuchMotor = refl
+refusal-back Refusals.WrongLength = refl
+refusal-back Refusals.WrongDuty = refl
+refusal-back Refusals.WrongPacketChecksum = refl
+refusal-back Refusals.PeriodOutOfRange = refl
+refusal-back Refusals.NotACapture = refl
+refusal-back Refusals.BankFaulted = refl
+refusal-back Refusals.MotorsRunning = refl
+refusal-back Refusals.CommandPending = refl
+refusal-back Refusals.TelemetryPending = refl
+refusal-back Refusals.RepliesUnsupported = refl
+refusal-back Refusals.BrokenDump = refl
+refusal-back Refusals.NotDeclaredOnce = refl
+refusal-back Refusals.TimeFalls = refl
+
+refusal-positive : (r : Refusal) → eqb (refusal_number r) 0 ≡ false
+refusal-positive Refusals.ZeroTimerClock = refl
+refusal-positive Refusals.ZeroBitrate = refl
+refusal-positive Refusals.PeriodTooShort = refl
+refusal-positive Refusals.PeriodTooLong = refl
+refusal-positive Refusals.ValueOutOfRange = refl
+refusal-positive Refusals.ThrottleOutOfRange = refl
+refusal-positive Refusals.NoReply = refl
+refusal-positive Refusals.Overlong = refl
+refusal-positive Refusals.InvalidSymbol = refl
+refusal-positive Refusals.WrongChecksum = refl
+refusal-positive Refusals.ZeroPeriod = refl
+refusal-positive Refusals.NoSuchMotor = refl
+refusal-positive Refusals.WrongLength = refl
+refusal-positive Refusals.WrongDuty = refl
+refusal-positive Refusals.WrongPacketChecksum = refl
+refusal-positive Refusals.PeriodOutOfRange = refl
+refusal-positive Refusals.NotACapture = refl
+refusal-positive Refusals.BankFaulted = refl
+refusal-positive Refusals.MotorsRunning = refl
+refusal-positive Refusals.CommandPending = refl
+refusal-positive Refusals.TelemetryPending = refl
+refusal-positive Refusals.RepliesUnsupported = refl
+refusal-positive Refusals.BrokenDump = refl
+refusal-positive Refusals.NotDeclaredOnce = refl
+refusal-positive Refusals.TimeFalls = refl
+
+pub refusal_number-injective : (r s : Refusal) → refusal_number r ≡ refusal_number s → r ≡ s
+refusal_number-injective = injective refusal_number refusal_of refusal-back
+
+-- the number that C gets determines the answer
+pub status_number-injective : (s t : Result Unit Refusal) → status_number s ≡ status_number t → s ≡ t
+status_number-injective = status-injective refusal_number refusal_of refusal-positive refusal-back

@@ -1,7 +1,7 @@
 -- What each refusal of the code means in the numbers of documents 01 and 02.
 -- Assumes nothing.
 use Rattle.std.specs.Prelude.{ℕ, Result}
-use Rattle.dshot_reply_spec.specs.Refusals.{zero_timer_clock, zero_bitrate, period_too_short, period_too_long, value_out_of_range, throttle_out_of_range, no_reply, overlong, invalid_symbol, wrong_checksum, zero_period, no_mask, no_such_motor, wrong_length, wrong_duty, wrong_packet_checksum, period_out_of_range, not_acapture, faulted, motors_running, command_pending, telemetry_pending, replies_unsupported, broken_dump, not_declared_once, time_falls}
+use Rattle.dshot_reply_spec.specs.Refusals.{zero_timer_clock, zero_bitrate, period_too_short, period_too_long, value_out_of_range, throttle_out_of_range, no_reply, overlong, invalid_symbol, wrong_checksum, zero_period, no_such_motor, wrong_length, wrong_duty, wrong_packet_checksum, period_out_of_range, not_acapture, faulted, motors_running, command_pending, telemetry_pending, replies_unsupported, broken_dump, not_declared_once, time_falls}
 use Rattle.dshot_reply.specs.Answers.{status}
 use Rattle.dshot_reply.specs.declared.refusals.Refusal.{Refusal}
 use Rattle.dshot_reply.specs.declared.refusals.Refusal.TheVariants as Refusal·
@@ -19,7 +19,6 @@ refusal_number Refusal·.Overlong = overlong
 refusal_number Refusal·.InvalidSymbol = invalid_symbol
 refusal_number Refusal·.WrongChecksum = wrong_checksum
 refusal_number Refusal·.ZeroPeriod = zero_period
-refusal_number Refusal·.NoMask = no_mask
 refusal_number Refusal·.NoSuchMotor = no_such_motor
 refusal_number Refusal·.WrongLength = wrong_length
 refusal_number Refusal·.WrongDuty = wrong_duty

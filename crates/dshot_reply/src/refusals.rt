@@ -10,39 +10,37 @@ use crate::DshotReplyError;
 
 #[derive(Clone, Copy, Debug, PartialEq, Eq)]
 pub enum Refusal {
-    ZeroTimerClock,
-    ZeroBitrate,
-    PeriodTooShort,
-    PeriodTooLong,
-    ValueOutOfRange,
-    ThrottleOutOfRange,
-    NoReply,
-    Overlong,
-    InvalidSymbol,
-    WrongChecksum,
-    ZeroPeriod,
-    // A capture is to be made with mask 0.
-    NoMask,
-    // The lane does not exist: its number is too large.
-    NoSuchMotor,
-    WrongLength,
-    WrongDuty,
-    WrongPacketChecksum,
-    PeriodOutOfRange,
-    NotACapture,
+    ZeroTimerClock = 1,
+    ZeroBitrate = 2,
+    PeriodTooShort = 3,
+    PeriodTooLong = 4,
+    ValueOutOfRange = 5,
+    ThrottleOutOfRange = 6,
+    NoReply = 7,
+    Overlong = 8,
+    InvalidSymbol = 9,
+    WrongChecksum = 10,
+    ZeroPeriod = 11,
+    // The lane does not exist: its number is too large. Or a capture is to be made with mask 0, which is no motor's pin.
+    NoSuchMotor = 12,
+    WrongLength = 13,
+    WrongDuty = 14,
+    WrongPacketChecksum = 15,
+    PeriodOutOfRange = 16,
+    NotACapture = 17,
     // ---- because of a bank's state
-    BankFaulted,
-    MotorsRunning,
-    CommandPending,
-    TelemetryPending,
-    RepliesUnsupported,
+    BankFaulted = 18,
+    MotorsRunning = 19,
+    CommandPending = 20,
+    TelemetryPending = 21,
+    RepliesUnsupported = 22,
     // ---- dumps
     // The text breaks the syntax, an argument is out of its range, or a sample has no level.
-    BrokenDump,
+    BrokenDump = 24,
     // The name is declared never or more than once.
-    NotDeclaredOnce,
+    NotDeclaredOnce = 25,
     // A time is smaller than the one before it.
-    TimeFalls,
+    TimeFalls = 26,
 }
 
 impl Refusal {
@@ -50,34 +48,7 @@ impl Refusal {
     pub fn number(self) -> u32
         ensures { result ≡ refusal_number self }
     {
-        match self {
-            Refusal::ZeroTimerClock => 1,
-            Refusal::ZeroBitrate => 2,
-            Refusal::PeriodTooShort => 3,
-            Refusal::PeriodTooLong => 4,
-            Refusal::ValueOutOfRange => 5,
-            Refusal::ThrottleOutOfRange => 6,
-            Refusal::NoReply => 7,
-            Refusal::Overlong => 8,
-            Refusal::InvalidSymbol => 9,
-            Refusal::WrongChecksum => 10,
-            Refusal::ZeroPeriod => 11,
-            Refusal::NoMask => 12,
-            Refusal::NoSuchMotor => 12,
-            Refusal::WrongLength => 13,
-            Refusal::WrongDuty => 14,
-            Refusal::WrongPacketChecksum => 15,
-            Refusal::PeriodOutOfRange => 16,
-            Refusal::NotACapture => 17,
-            Refusal::BankFaulted => 18,
-            Refusal::MotorsRunning => 19,
-            Refusal::CommandPending => 20,
-            Refusal::TelemetryPending => 21,
-            Refusal::RepliesUnsupported => 22,
-            Refusal::BrokenDump => 24,
-            Refusal::NotDeclaredOnce => 25,
-            Refusal::TimeFalls => 26,
-        }
+        self as u32
     }
 }
 

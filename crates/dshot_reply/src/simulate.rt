@@ -25,7 +25,7 @@ impl From<SimulateError> for Refusal {
     fn from(error: SimulateError) -> Refusal {
         match error {
             SimulateError::PeriodOutOfRange => Refusal::PeriodOutOfRange,
-            SimulateError::NoMask => Refusal::NoMask,
+            SimulateError::NoMask => Refusal::NoSuchMotor,
             SimulateError::WrongLength => Refusal::WrongLength,
         }
     }
