@@ -1,11 +1,10 @@
 -- What the reader of a line finds in its bytes.
 -- Assumes nothing.
-use Rattle.std.specs.Prelude.{ℕ, suc, Bool, true, false, ◌+◌, ◌-◌, ◌*◌, Option, Some, None, List, [], ◌∷◌, eqb, ltb, length, drop, if◌then◌else◌}
-
--- how many bytes stand before the first byte b; if there is none, all of them
-abbrev pub before : ℕ → List ℕ → ℕ
-before b [] = 0
-before b (x ∷ xs) = if eqb x b then 0 else suc (before b xs)
+use Rattle.std.specs.Prelude.{ℕ, Bool, true, false, ◌+◌, ◌-◌, ◌*◌, Option, Some, None, List, [], ◌∷◌, eqb, ltb, length, drop, if◌then◌else◌}
+use Rattle.std.specs.List.{filter, slice_split}
+use Rattle.std.specs.Option.{option_map}
+use Rattle.case_text.specs.declared.numbers.Spaces.{Spaces}
+use Rattle.case_text.specs.declared.numbers.Spaces.TheVariants.{One, Any}
 
 -- the digit that a byte is in ASCII, if it is one
 abbrev pub digit_of : ℕ → Option ℕ
@@ -53,6 +52,33 @@ ends_at place (Some read) = if eqb read.1 place then Some read.0 else None
 -- the number that all bytes of a text make
 abbrev pub whole_number : List ℕ → Option ℕ
 whole_number text = ends_at (length text) (number_at text 0)
+
+-- a number before the numbers after it; none if either is missing
+abbrev pub number_before : Option ℕ → Option (List ℕ) → Option (List ℕ)
+number_before None ns = None
+number_before (Some n) ns = option_map (λ rest. n ∷ rest) ns
+
+-- the numbers that words are, if each is one
+abbrev pub numbers_of : List (List ℕ) → Option (List ℕ)
+numbers_of [] = Some []
+numbers_of (word ∷ words) = number_before (whole_number word) (numbers_of words)
+
+-- the same; none if there are more than n
+unfoldable pub numbers_within : ℕ → List (List ℕ) → Option (List ℕ)
+numbers_within n words = if ltb n (length words) then None else numbers_of words
+
+-- whether a word has a byte
+abbrev pub has_byte : List ℕ → Bool
+has_byte word = ltb 0 (length word)
+
+-- the words among the parts between two spaces: all, or those that have a byte
+abbrev pub words_among : Spaces → List (List ℕ) → List (List ℕ)
+words_among One parts = parts
+words_among Any parts = filter has_byte parts
+
+-- the words of a line
+abbrev pub words_of : Spaces → List ℕ → List (List ℕ)
+words_of spaces line = words_among spaces (slice_split (λ b. eqb b 32) line)
 
 -- the flag of a number, if it is 0 or 1
 abbrev pub flag_of : ℕ → Option Bool

@@ -1,9 +1,10 @@
 // Reads the numbers of a line.
 
-ghost use Rattle.std.specs.Prelude.{◌≡◌, ℕ, drop, map, length, List, Some, None, IfSome, IfNone, ◌⊎◌};
+ghost use Rattle.std.specs.Prelude.{◌≡◌, ◌≤◌, ℕ, drop, map, length, List, Some, None, IfSome, IfNone, ◌⊎◌};
 ghost use Rattle.std.specs.Iterator.{IsFinite, Drains, YieldsThen};
 ghost use denote.Ref.{Bor};
-ghost use Rattle.case_text.specs.Numbers.{digit_of, number_at, whole_number, flag_of};
+ghost use Rattle.std.specs.Option.{option_map};
+ghost use Rattle.case_text.specs.Numbers.{digit_of, number_at, whole_number, numbers_within, words_of, flag_of};
 
 use arrayvec::ArrayVec;
 
@@ -48,13 +49,12 @@ pub fn whole_number(word: &[u8]) -> Option<u64>
     (end == word.len()).then_some(value)
 }
 
-// Reads words as numbers. If a word is no number, or there are more than N, there are none.
-pub fn read_words<'a, const N: usize, I: Iterator<Item = &'a [u8]>>(
-    words: I,
-) -> Option<ArrayVec<u64, N>>
+// Reads each word as a number. If one is no number, or there are more than N, there are none.
+fn read_each<'a, const N: usize, I: Iterator<Item = &'a [u8]>>(words: I) -> Option<ArrayVec<u64, N>>
     requires can { I.can_next words }
     requires ends { IsFinite (I.remaining words) }
     ensures read { IfSome result (λ numbers. (ws : List (Bor (List ℕ))) × Drains I.next_gives words ws × (map (λ w. whole_number w.now) ws ≡ map Some numbers.items)) }
+    ensures few { IfSome result (λ numbers. length numbers.items ≤ N) }
     ensures refused { IfNone result ((ws : List (Bor (List ℕ))) × (w : Bor (List ℕ)) × (rest : I) × YieldsThen I.next_gives words ws (Some w) rest × ((length ws ≡ N) ⊎ (whole_number w.now ≡ None))) }
 {
     let mut numbers = ArrayVec::new();
@@ -62,6 +62,24 @@ pub fn read_words<'a, const N: usize, I: Iterator<Item = &'a [u8]>>(
         numbers.try_push(whole_number(word)?).ok()?;
     }
     Some(numbers)
+}
+
+// How many spaces stand between two words. With `Any`, there may be some before the first word and behind the last, too.
+#[derive(Clone, Copy, Debug, PartialEq, Eq)]
+pub enum Spaces {
+    One,
+    Any,
+}
+
+// Reads the words of a line as numbers. If a word is no number, or there are more than N, there are none.
+pub fn read_words<const N: usize>(line: &[u8], spaces: Spaces) -> Option<ArrayVec<u64, N>>
+    ensures { option_map (λ numbers. numbers.items) result ≡ numbers_within N (words_of spaces line.now) }
+{
+    let parts = line.split(|byte| *byte == b' ');
+    match spaces {
+        Spaces::One => read_each(parts),
+        Spaces::Any => read_each(parts.filter(|part| !part.is_empty())),
+    }
 }
 
 // A flag is 0 or 1.

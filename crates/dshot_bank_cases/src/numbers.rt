@@ -1,14 +1,14 @@
 // Reads the numbers of a line.
 
 use arrayvec::ArrayVec;
-use case_text::numbers::{flag, read_words};
+use case_text::numbers::{Spaces, flag, read_words};
 
 // The most numbers that a line has: eighteen, and two for each of 700 runs.
 const MOST_NUMBERS: usize = 1418;
 
 // Reads numbers with one space between them. Nothing else may stand there.
 pub(crate) fn read_line(line: &[u8]) -> Option<ArrayVec<u64, MOST_NUMBERS>> {
-    read_words(line.split(|byte| *byte == b' '))
+    read_words(line, Spaces::One)
 }
 
 // A flag for each lane.

@@ -1,7 +1,7 @@
 // Reads the numbers of a line.
 
 use arrayvec::ArrayVec;
-use case_text::numbers::read_words;
+use case_text::numbers::{Spaces, read_words};
 
 // The most numbers that a record has: seven, and two for each of 512 runs.
 const MOST_NUMBERS: usize = 1031;
@@ -9,6 +9,5 @@ const MOST_NUMBERS: usize = 1031;
 // Reads the numbers before the comment, with spaces between them. No other byte may stand there.
 pub(crate) fn read_line(line: &[u8]) -> Option<ArrayVec<u64, MOST_NUMBERS>> {
     let record = line.split(|byte| *byte == b'#').next()?;
-    let words = record.split(|byte| *byte == b' ');
-    read_words(words.filter(|word| !word.is_empty()))
+    read_words(record, Spaces::Any)
 }
