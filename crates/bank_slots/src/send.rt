@@ -127,9 +127,8 @@ fn turn_marks(state: &mut [u16; SLOTS], turned: usize)
     requires { turned ≤ 4 }
     ensures { Moves (on_core (marks_turned turned)) state.old state.new }
 {
-    for lane in 0..turned {
-        let mark = flag(state[IN_SECOND + lane]);
-        state[IN_SECOND + lane] = u16::from(!mark);
+    for mark in state[IN_SECOND..IN_SECOND + turned].iter_mut() {
+        *mark = u16::from(!flag(*mark));
     }
 }
 
