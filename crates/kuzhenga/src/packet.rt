@@ -40,6 +40,7 @@ impl Slots<1> for DshotPacket {
 }
 
 // The plain packet of a value up to 2047, in one slot.
+#[tactic(auto, unfolding(dshot_spec::specs::Packet::try_packet, crate::specs::Slots::asked))]
 #[unsafe(no_mangle)]
 pub extern "C" fn kuzhenga_packet_try_from_value(
     value: u32,

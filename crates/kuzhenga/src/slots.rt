@@ -1,6 +1,6 @@
 // Added, for the exported calls: how an answer is put into slots, and how numbers, timings and runs lie in them.
 
-ghost use Rattle.std.specs.Prelude.{◌≡◌, ◌≤◌, ◌/◌, ◌%◌, ℕ, List, Result};
+ghost use Rattle.std.specs.Prelude.{◌≡◌, ◌≢◌, ◌≤◌, ◌/◌, ◌%◌, ℕ, List, Result, Ok, Err, MatchResult, IsErrAnd, length};
 ghost use Rattle.dshot_reply_spec.specs.Answer.{Answer, refusal_number, filled};
 ghost use Rattle.dshot_reply.specs.Answers.{answer};
 ghost use Rattle.dshot_reply.specs.Refusals.{refusal_number as number_of, status_number};
@@ -55,9 +55,8 @@ where
     F: FnOnce() -> Result<T, E> + Drop,
     requires few { N ≤ 4 }
     requires callable { F.IsAlwaysCallable make }
-    ensures { (number : E → ℕ) → ((e : E) (r : _) → E.converts e r → number_of r ≡ number e)
-        → (a : Answer (List ℕ)) → ((r : Result T E) → F.post make r → answer T.slots number r ≡ a)
-        → (status_number result ≡ refusal_number (asked N out.old a)) × (out.new ≡ filled (λ l. l) out.old (asked N out.old a)) }
+    ensures wrong { length out.old ≢ N → (result ≡ Err Refusal.WrongLength) × (out.new ≡ out.old) }
+    ensures right { length out.old ≡ N → (r : _) × F.post make r × MatchResult r (λ x. (result ≡ Ok tt) × (out.new ≡ T.slots x)) (λ e. IsErrAnd result (E.converts e) × (out.new ≡ out.old)) }
 {
     let out = out.as_mut_array::<N>().ok_or(Refusal::WrongLength)?;
     make().map_err(E::into)?.fill(out);
