@@ -55,8 +55,11 @@ where
     F: FnOnce() -> Result<T, E> + Drop,
     requires few { N ≤ 4 }
     requires callable { F.IsAlwaysCallable make }
-    ensures wrong { length out.old ≢ N → (result ≡ Err Refusal.WrongLength) × (out.new ≡ out.old) }
-    ensures right { length out.old ≡ N → (r : _) × F.post make r × MatchResult r (λ x. (result ≡ Ok tt) × (out.new ≡ T.slots x)) (λ e. IsErrAnd result (E.converts e) × (out.new ≡ out.old)) }
+    ensures wrong_length { length out.old ≢ N → (result ≡ Err Refusal.WrongLength) × (out.new ≡ out.old) }
+    ensures answered { length out.old ≡ N → (r : _) × F.post make r
+        × MatchResult r
+        (λ x. (result ≡ Ok tt) × (out.new ≡ T.slots x))
+        (λ e. IsErrAnd result (E.converts e) × (out.new ≡ out.old)) }
 {
     let out = out.as_mut_array::<N>().ok_or(Refusal::WrongLength)?;
     make().map_err(E::into)?.fill(out);

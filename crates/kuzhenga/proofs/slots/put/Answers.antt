@@ -1,4 +1,4 @@
--- `kuzhenga::slots::put` meets its contract: what it was answered is what its caller's closure may answer.
+-- `kuzhenga::slots::put` meets its contract: what its closure answered is in the slots, or is the refusal.
 -- Assumes nothing.
 use mathlib.Core.Path.{◌≡◌, refl, subst}
 use borrow.Author.Rules.{rules}
@@ -17,10 +17,10 @@ module _ {T E D : Type 0} (P : T → Type 0) (Q : E → Type 0) (K : E → D →
   refused-on (Err x) (Ok z) d h e q = absurd h
   refused-on (Err x) (Err z) d h e q = let same : z ≡ d = cc in q x (subst (K x) same h)
 
-pub returns-in_err-map_err-clause-right : goal.returns-in_err-map_err-clause-right
-returns-in_err-map_err-clause-right g c h =
+pub returns-in_err-map_err-clause-answered : goal.returns-in_err-map_err-clause-answered
+returns-in_err-map_err-clause-answered g c h =
     let p = err_from_is_err_and c.from_residual-in_err-map_err.result c.from_residual-in_err-map_err.ensures.1 in
     (c.make.result, c.make.ensures, refused-on _ _ (λ e d. g.E.Into.converts e d) c.make.result c.map_err.result c.in_err-map_err.field-0.0 c.map_err.ensures.cases c.in_err-map_err.was (λ e k. (rw (p.1, p.2) k, search rules)))
 
-pub returns-clause-right : goal.returns-clause-right
-returns-clause-right g c h = (c.make.result, c.make.ensures, given-on _ _ (λ e d. g.E.Into.converts e d) c.make.result c.map_err.result _ c.map_err.ensures.cases c.in_ok-map_err.was (refl, c.fill.ensures))
+pub returns-clause-answered : goal.returns-clause-answered
+returns-clause-answered g c h = (c.make.result, c.make.ensures, given-on _ _ (λ e d. g.E.Into.converts e d) c.make.result c.map_err.result _ c.map_err.ensures.cases c.in_ok-map_err.was (refl, c.fill.ensures))
