@@ -144,11 +144,7 @@ impl Core {
     // A lane has completed. After the last lane of a transmission, the receive window opens or the set is done. After the last window, the set is
     // done.
     #[tactic(auto, unfolding(dshot_bank_spec::specs::Interrupt::after_lane))]
-    fn after_lane(
-        self,
-        motor: DshotMotor,
-        answers: DmaAnswers,
-    ) -> Handled<DshotInterruptEvent>
+    fn after_lane(self, motor: DshotMotor, answers: DmaAnswers) -> Handled<DshotInterruptEvent>
         ensures { Interrupts result (after_lane 4 (motor_of motor) true false answers.turned answers.turned_back (core_of self)) }
     {
         let paused = Orders::paused(motor);

@@ -22,7 +22,7 @@ returns c =
     let told = c.answers.ensures in
     c.interrupts.ensures end
     ∙ ap (λ (r : Spec.Run). Spec.interrupts a.setup.interrupts r)
-      (c.serve.ensures
-      ∙ ap (λ (r : Spec.Run). after r (service_call n answers.taken (present_of answers.masks) (masks_of answers.masks) samples)) (c.throttle.ensures start)
-      ∙ (λ j. after thrown (service_call n (told.0 j) (present_of (told.1 j)) (masks_of (told.1 j)) samples))
-      ∙ served a.setup.present a.setup.mask n samples thrown)
+    (c.serve.ensures
+    ∙ ap (λ (r : Spec.Run). after r (service_call n answers.taken (present_of answers.masks) (masks_of answers.masks) samples)) (c.throttle.ensures start)
+    ∙ (λ j. after thrown (service_call n (told.0 j) (present_of (told.1 j)) (masks_of (told.1 j)) samples))
+    ∙ served a.setup.present a.setup.mask n samples thrown)
