@@ -1,6 +1,6 @@
 // Reads a list from an input.
 
-ghost use Rattle.std.specs.Prelude.{◌≡◌, take, IfOk, IfSome};
+ghost use Rattle.std.specs.Prelude.{◌≡◌, ◌≤◌, length, take, IfOk, IfSome};
 
 use std::alloc::Allocator;
 use std::io;
@@ -12,9 +12,12 @@ pub fn read_first<R: Read, A: Allocator>(
     input: &mut R,
     most: u64,
 ) -> io::Result<Vec<u8, A>>
-    ensures { IfOk result (λ text. IfSome (R.remaining input.old) (λ bytes. text.items ≡ take most bytes)) }
+    ensures read { IfOk result (λ text. IfSome (R.remaining input.old) (λ bytes. text.items ≡ take most bytes)) }
+    ensures in_bounds { IfOk result (λ text. length text.items ≤ most) }
 {
     let mut text = Vec::new(alloc);
     input.take(most).read_to_end(&mut text)?;
+    // It has no more than `most` bytes already. So it is known of any reader.
+    text.truncate(most as usize);
     Ok(text)
 }
