@@ -6,8 +6,7 @@
 
 #![tactic(auto, unfolding(bank_slots_spec::specs::Called::answer_of, bank_slots_spec::specs::Called::bank_after, bank_slots_spec::specs::Outs::out_after))]
 
-ghost use Rattle.std.specs.Prelude.{◌≡◌, true, nat_lt, if◌then◌else◌};
-ghost use Rattle.std.specs.List.{list_any};
+ghost use Rattle.std.specs.Prelude.{◌≡◌, true, if◌then◌else◌};
 ghost use Rattle.dshot_reply_spec.specs.Refusals.{wrong_length};
 ghost use Rattle.dshot_reply.specs.Refusals.{status_number};
 ghost use Rattle.dshot_bank_spec.specs.State.{Buffers};
@@ -30,6 +29,7 @@ use crate::{
     RUN, SLOTS, VALUES,
 };
 use dshot::throttle_to_dshot;
+use dshot_bank::commands::any_above;
 use dshot_bank::{DSHOT_COMMAND_MAX, DshotMotor, LANES};
 use dshot_reply::DshotReplyError;
 use dshot_reply::refusals::Refusal;
@@ -76,13 +76,6 @@ pub fn command_stop(bank: &mut [u16]) -> Result<(), Refusal>
     let state = bank.as_mut_array::<SLOTS>().ok_or(Refusal::WrongLength)?;
     stop(state);
     Ok(())
-}
-
-// Whether one of the values is above this. The function of `dshot_bank` takes them by value: throttles then cost 84 instructions, and here 67.
-pub(crate) fn any_above(values: &[u16; LANES], most: u16) -> bool
-    ensures { result ≡ list_any (nat_lt most) values.now }
-{
-    values.iter().any(|value| *value > most)
 }
 
 // Inlined, because the compiler then knows from the test before it that each throttle is at most 2000.

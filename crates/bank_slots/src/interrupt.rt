@@ -196,9 +196,9 @@ fn handle(
     after_lane(state, motor, answers, out);
 }
 
-#[tactic(auto, unfolding(bank_slots_spec::specs::Called::answer_of, bank_slots_spec::specs::Called::bank_after, bank_slots_spec::specs::Outs::out_after))]
 // `turned` and `turned_back` of the answers each count only if the Rust would ask for them. The answer takes nine slots: the event, the number of
 // orders, and the orders.
+#[tactic(auto, unfolding(bank_slots_spec::specs::Called::answer_of, bank_slots_spec::specs::Called::bank_after, bank_slots_spec::specs::Outs::out_after))]
 pub fn on_dma_interrupt(
     bank: &mut [u16],
     motor: usize,

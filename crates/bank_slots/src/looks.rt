@@ -1,6 +1,6 @@
 // Ported from crates/ferrowasp-stm32-critical/src/dshot_bank.rs of Eirik2020/ferro-wasp at commit 9cb8aca1a6, Copyright (c) 2026 Kaldstrand, under
 // the Apache License, Version 2.0 (see NOTICE). Changed: ported to Rattle, on a state in lent slots, with a promise for each call. Each call refuses
-// slices of other lengths. The view is added.
+// slices of other lengths, and the view a lane above 3. The view is added.
 //
 // The calls that only look at a bank, the taking of its replies, and the view of the sequence that a lane is sending.
 
@@ -37,8 +37,8 @@ use dshot_reply::{DshotReply, DshotReplyError};
 
 // ---- flags and values
 
-#[tactic(auto, using(crate::proofs::Parts::bit_is))]
 // Copies the flag in a slot of the bank into one slot, as 0 or 1.
+#[tactic(auto, using(crate::proofs::Parts::bit_is))]
 fn look_flag(bank: &[u16], k: usize, out: &mut [u16]) -> Result<(), Refusal>
     requires { k < slots }
     ensures value { status_number result ≡ (if fit bank.now (sized 1 out.old) then 0 else wrong_length) }
@@ -154,6 +154,7 @@ fn stored(kind: u16, carried: u32) -> Result<DshotReply, DshotReplyError>
 }
 
 // A lane's reply in the four slots from `k` on: 0, the kind and the number. If it is refused, the refusal's number and zeros.
+// Without the hint the compiler makes a call of it at each use.
 #[inline(always)]
 fn put_reply(out: &mut [u16; REPLIES_SLOTS], k: usize, read: Result<DshotReply, DshotReplyError>)
     requires { k + 3 < 17 }

@@ -46,6 +46,7 @@ pub(crate) const LATCH_ORDERS: [u16; 5] = [
 ];
 
 // Puts an answer into its slots: the event, the number of orders, the orders, and zeros. The orders come in two lists, one behind the other.
+// Without the hint the compiler makes a call of it at each use.
 #[inline(always)]
 pub(crate) fn tell<const N: usize>(out: &mut [u16; N], event: u16, first: &[u16], then: &[u16])
     requires { (2 + length first.now + length then.now ≤ N) × (N < 65536) }

@@ -53,6 +53,7 @@ fn stored_number(read: Result<DshotReply, DshotReplyError>) -> u32
 }
 
 // Writes a lane's reply and its counts into the nine slots from `k` on.
+// Without the hint the compiler makes a call of it at each use.
 #[inline(always)]
 fn put_lane(
     state: &mut [u16; SLOTS],
@@ -71,6 +72,7 @@ fn put_lane(
 }
 
 // Counts a reply of the lane whose slots begin at `k`. It does not look at the reply that was stored before.
+// Without the hint the compiler makes a call of it at each use.
 #[inline(always)]
 fn count_reply(state: &mut [u16; SLOTS], k: usize, read: Result<DshotReply, DshotReplyError>)
     requires { k + 8 < slots }
@@ -86,6 +88,7 @@ fn count_reply(state: &mut [u16; SLOTS], k: usize, read: Result<DshotReply, Dsho
 }
 
 // Reads and counts the window of a lane. Extended telemetry is not enabled yet, so every value except its acknowledgement is read as eRPM.
+// Without the hint the compiler makes a call of it at each use.
 #[inline(always)]
 fn decode_lane(
     state: &mut [u16; SLOTS],

@@ -22,7 +22,6 @@ ghost use Rattle.dshot_bank.specs.States.{motor_of, motor_at, choice_of};
 ghost use Rattle.dshot_bank.specs.Sends.{motor_command_of};
 ghost use Rattle.bank_slots.specs.Frames.{Sets, exchange_codes, refused_slots};
 
-use crate::commands::any_above;
 use crate::memory::{bump, flag, motor_in, put_long, put_word};
 use crate::numbers::{EXCHANGE_BUFFER, LATCH_ORDERS, SECOND, STARTED_ORDERS, tell};
 use crate::steps::{clear_run, latch_fault, put_run, run_at, values_at};
@@ -31,6 +30,7 @@ use crate::{
     REQUEST_SENT, RUN, SERVICE_SLOTS, SLOTS, STARTED,
 };
 use dshot::{ChecksumKind, DshotTiming, MotorValues, packets_of_kind};
+use dshot_bank::commands::any_above;
 use dshot_bank::replies::LaneFlags;
 use dshot_bank::send::{encode_lanes, one_lane};
 use dshot_bank::service::{DshotServiceEvent, sent_event};
@@ -70,8 +70,8 @@ fn next_command_frame(state: &mut [u16; SLOTS]) -> FrameCommand
 
 // ---- what is sent
 
-#[tactic(auto, unfolding(bank_slots_spec::specs::Load::load))]
 // A special command needs the telemetry bit on its own lane, so a pending telemetry request waits for the next ordinary frame.
+#[tactic(auto, unfolding(bank_slots_spec::specs::Load::load))]
 fn frame_set(state: &[u16; SLOTS], command: FrameCommand) -> FrameSet
     ensures { Sets result (load state.now).core (motor_command_of command) }
 {
@@ -227,7 +227,7 @@ pub(crate) fn send(
     }
     let event = sent_event(true, lease_expired);
     tell(out, event as u16, &exchanges(state), &STARTED_ORDERS);
-    // Slot by slot. `copy_from_slice` tests whether the two parts overlap.
+    // Each slot is stored by itself, because `copy_from_slice` tests whether the two parts overlap.
     let [a, b, c, d] = duties;
     out[11] = a;
     out[12] = b;

@@ -196,9 +196,9 @@ pub struct DshotTiming {
 impl DshotTiming {
     // The limits of the period, in ticks of the timer. The limit of the sample period refuses a period of 4 too (`shortest-period` in
     // dshot_spec/proofs/TimingLaws.antt).
-    pub const MIN_PERIOD: u64 = 4;
+    pub const MIN_PERIOD: u32 = 4;
 
-    pub const MAX_PERIOD: u64 = 65536;
+    pub const MAX_PERIOD: u32 = 65536;
 
     // The lower limit of the period of reply samples, in ticks of the timer.
     pub const MIN_REPLY_SAMPLE_PERIOD: u64 = 2;
@@ -218,10 +218,10 @@ impl DshotTiming {
         let clock = u64::from(timer_hz);
         let bitrate = u64::from(bitrate_hz);
         let period = div_round(clock, bitrate);
-        if period < DshotTiming::MIN_PERIOD {
+        if period < u64::from(DshotTiming::MIN_PERIOD) {
             return Err(DshotTimingError::PeriodTooShort);
         }
-        if period > DshotTiming::MAX_PERIOD {
+        if period > u64::from(DshotTiming::MAX_PERIOD) {
             return Err(DshotTimingError::PeriodTooLong);
         }
         let reply_sample_hz = bitrate * (5 * REPLY_SAMPLES_PER_BIT as u64) / 4;

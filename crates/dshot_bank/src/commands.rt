@@ -1,5 +1,6 @@
 // Ported from crates/ferrowasp-stm32-critical/src/dshot_bank.rs of Eirik2020/ferro-wasp at commit 9cb8aca1a6, Copyright (c) 2026 Kaldstrand,
-// under the Apache License, Version 2.0 (see NOTICE). Changed: ported to Rattle, with a promise for each call.
+// under the Apache License, Version 2.0 (see NOTICE). Changed: ported to Rattle, with a promise for each call. The calls for one
+// motor take its lane as a number, and refuse it above 3.
 //
 // The calls that command a bank: demands, runs of special commands, and telemetry requests.
 
@@ -112,8 +113,8 @@ pub type Requested = Answered<Result<(), DshotTelemetryRequestError>>;
 pub type SentTaken = Answered<Option<DshotMotor>>;
 
 // Whether one of the values is above this.
-pub fn any_above(values: MotorValues, most: u16) -> bool
-    ensures { result ≡ list_any (nat_lt most) values }
+pub fn any_above(values: &MotorValues, most: u16) -> bool
+    ensures { result ≡ list_any (nat_lt most) values.now }
 {
     values.iter().any(|value| *value > most)
 }
@@ -122,7 +123,7 @@ pub fn any_above(values: MotorValues, most: u16) -> bool
 pub(crate) fn any_requested(values: MotorValues) -> bool
     ensures { result ≡ any_requested values }
 {
-    any_above(values, 0)
+    any_above(&values, 0)
 }
 
 impl Demand {
@@ -156,7 +157,7 @@ impl Demand {
         if faulted {
             return Err(DshotCommandError::Faulted);
         }
-        if any_above(commands, DSHOT_COMMAND_MAX) {
+        if any_above(&commands, DSHOT_COMMAND_MAX) {
             return Err(DshotCommandError::ThrottleOutOfRange);
         }
         if !any_requested(commands) {

@@ -112,8 +112,7 @@ impl DshotMotor {
         }
     }
 
-    // The bit of a motor in a completion mask.
-    pub fn completion_bit(self) -> u32
+    pub(crate) fn completion_bit(self) -> u32
         ensures { result ≡ completion_bit (motor_of self) }
     {
         1 << self.index()

@@ -82,14 +82,16 @@ const EXCHANGES_3: u64 = EXCHANGE + UP * (EXCHANGE + 1 + UP * (EXCHANGE + 2));
 
 const EXCHANGES_4: u64 = EXCHANGES_3 + UP_3 * (EXCHANGE + 3);
 
-// The four exchanges, then a start for each lane, then the start of the frame.
+// A start for each lane.
 const STARTS: u64 = START + UP * (START + 1 + UP * (START + 2 + UP * (START + 3)));
 
+// The four exchanges, then the starts, then the start of the frame.
 const STARTED: u64 = EXCHANGES_4 + UP_4 * (STARTS + UP_4 * START_FRAME);
 
-// The outputs low, then a pause for each lane.
+// A pause for each lane.
 const PAUSES: u64 = PAUSE + UP * (PAUSE + 1 + UP * (PAUSE + 2 + UP * (PAUSE + 3)));
 
+// The outputs low, then the pauses.
 const LATCHED: u64 = FORCE_LOW + UP * PAUSES;
 
 // The orders of a latched fault, moved up by some orders.

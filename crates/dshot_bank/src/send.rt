@@ -55,7 +55,7 @@ pub(crate) struct Sent {
     pub core: Core,
 }
 
-// An event without a frame set, with the orders and the core after it.
+// An event of an interrupt, or of a service that sends nothing, with the orders and the core after it.
 #[derive(Clone, Copy)]
 pub(crate) struct Handled<E> {
     pub event: E,

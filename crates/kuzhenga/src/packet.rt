@@ -55,8 +55,8 @@ pub extern "C" fn kuzhenga_packet_try_from_value(
     status_number(put(packet, make))
 }
 
-// Makes one packet at a time, and does not call `dshot` for all four. That function is inlined in the bank's sending, as long as nothing else calls
-// it.
+// Makes one packet at a time, and does not call `packets_of_kind`. That function is inlined in the bank's sending, as long as nothing else calls it. It
+// saves 4 to 5 ns in a cycle.
 #[tactic(auto, unfolding(dshot_spec::specs::Packet::motor_packets), using(crate::proofs::Cases::filled_cases))]
 fn fill_packets(
     kind: ChecksumKind,

@@ -1,4 +1,4 @@
-// Added, for the exported calls: how an answer is put into slots, and how numbers, timings and runs lie in them.
+// Added, for the exported calls: how an answer is put into slots, and how numbers and timings lie in them.
 
 ghost use Rattle.std.specs.Prelude.{◌≡◌, ◌≢◌, ◌≤◌, ◌/◌, ◌%◌, ℕ, List, Result, Ok, Err, MatchResult, IsErrAnd, length};
 ghost use Rattle.dshot_reply_spec.specs.Answer.{Answer, refusal_number, filled};
