@@ -8,6 +8,7 @@ pub mod ReadLaws
 pub mod WriteLaws
 pub mod SampleLaws
 pub mod HeadLaws
+pub mod InputLaws
 pub mod CallLaws
 pub mod ListLaws
 pub mod Examples

@@ -1,23 +1,23 @@
 // Reads a list from an input.
 
-ghost use Rattle.std.specs.Prelude.{◌≡◌, ◌≤◌, length, take, IfOk, IfSome};
+ghost use Rattle.std.specs.Prelude.{◌≡◌, length, take, IfOk, IfSome};
+ghost use Rattle.std.specs.Io.{ReadsAtMost};
 
-use std::alloc::Allocator;
 use std::io;
 use std::io::Read;
 
-// Reads the first `most` bytes of an input, or all if it has no more.
-pub fn read_first<R: Read, A: Allocator>(
-    alloc: A,
-    input: &mut R,
-    most: u64,
-) -> io::Result<Vec<u8, A>>
-    ensures read { IfOk result (λ text. IfSome (R.remaining input.old) (λ bytes. text.items ≡ take most bytes)) }
-    ensures in_bounds { IfOk result (λ text. length text.items ≤ most) }
+// Reads until the buffer is full or the input ends, and answers how many bytes at its start were read. The buffer is lent, so the call asks for no memory.
+pub fn read_full<R: Read>(input: &mut R, buffer: &mut [u8]) -> io::Result<usize>
+    ensures read { IfOk result (λ n. IfSome (R.remaining input.old) (λ bytes. take n buffer.new ≡ take (length buffer.old) bytes)) }
+    ensures in_bounds { ReadsAtMost result buffer.new }
 {
-    let mut text = Vec::new(alloc);
-    input.take(most).read_to_end(&mut text)?;
-    // It has no more than `most` bytes already. So it is known of any reader.
-    text.truncate(most as usize);
-    Ok(text)
+    let mut done = 0;
+    while done < buffer.len() {
+        let more = input.read(&mut buffer[done..])?;
+        if more == 0 {
+            break;
+        }
+        done += more;
+    }
+    Ok(done)
 }

@@ -1,6 +1,6 @@
 // Reads the numbers of a line.
 
-ghost use Rattle.std.specs.Prelude.{◌≡◌, ◌≤◌, ℕ, drop, map, length, List, Some, None, IfSome, IfNone, ◌⊎◌};
+ghost use Rattle.std.specs.Prelude.{◌≡◌, ◌≤◌, ℕ, drop, map, length, List, [], Some, None, IfSome, IfNone, ◌⊎◌};
 ghost use Rattle.std.specs.Iterator.{IsFinite, Drains, YieldsThen};
 ghost use denote.Ref.{Bor};
 ghost use Rattle.std.specs.Option.{option_map};
@@ -49,19 +49,22 @@ pub fn whole_number(word: &[u8]) -> Option<u64>
     (end == word.len()).then_some(value)
 }
 
-// Reads each word as a number. If one is no number, or there are more than N, there are none.
-fn read_each<'a, const N: usize, I: Iterator<Item = &'a [u8]>>(words: I) -> Option<ArrayVec<u64, N>>
+// Reads each word as a number. If one is no number, or there are more than N, the answer is none.
+fn read_each<'a, const N: usize, I: Iterator<Item = &'a [u8]>>(
+    words: I,
+    numbers: &mut ArrayVec<u64, N>,
+) -> Option<()>
     requires can { I.can_next words }
     requires ends { IsFinite (I.remaining words) }
-    ensures read { IfSome result (λ numbers. (ws : List (Bor (List ℕ))) × Drains I.next_gives words ws × (map (λ w. whole_number w.now) ws ≡ map Some numbers.items)) }
-    ensures few { IfSome result (λ numbers. length numbers.items ≤ N) }
+    ensures read { IfSome result (λ _. (ws : List (Bor (List ℕ))) × Drains I.next_gives words ws × (map (λ w. whole_number w.now) ws ≡ map Some numbers.new.items)) }
+    ensures few { IfSome result (λ _. length numbers.new.items ≤ N) }
     ensures refused { IfNone result ((ws : List (Bor (List ℕ))) × (w : Bor (List ℕ)) × (rest : I) × YieldsThen I.next_gives words ws (Some w) rest × ((length ws ≡ N) ⊎ (whole_number w.now ≡ None))) }
 {
-    let mut numbers = ArrayVec::new();
+    numbers.clear();
     for word in words {
         numbers.try_push(whole_number(word)?).ok()?;
     }
-    Some(numbers)
+    Some(())
 }
 
 // How many spaces stand between two words. With `Any`, there may be some before the first word and behind the last, too.
@@ -71,15 +74,36 @@ pub enum Spaces {
     Any,
 }
 
-// Reads the words of a line as numbers. If a word is no number, or there are more than N, there are none.
-pub fn read_words<const N: usize>(line: &[u8], spaces: Spaces) -> Option<ArrayVec<u64, N>>
-    ensures { option_map (λ numbers. numbers.items) result ≡ numbers_within N (words_of spaces line.now) }
+// Reads the words of a line as numbers.
+fn read_parts<const N: usize>(
+    line: &[u8],
+    spaces: Spaces,
+    numbers: &mut ArrayVec<u64, N>,
+) -> Option<()>
+    ensures { option_map (λ _. numbers.new.items) result ≡ numbers_within N (words_of spaces line.now) }
 {
     let parts = line.split(|byte| *byte == b' ');
     match spaces {
-        Spaces::One => read_each(parts),
-        Spaces::Any => read_each(parts.filter(|part| !part.is_empty())),
+        Spaces::One => read_each(parts, numbers),
+        Spaces::Any => read_each(parts.filter(|part| !part.is_empty()), numbers),
     }
+}
+
+// Reads the words of a line as numbers, in place of those that are there. If a word is no number, or there are more than N, the answer is none, and no
+// number is left. The numbers are lent, because handing them on by value copies room for all N at each step.
+pub fn read_words<const N: usize>(
+    line: &[u8],
+    spaces: Spaces,
+    numbers: &mut ArrayVec<u64, N>,
+) -> Option<()>
+    ensures value { option_map (λ _. numbers.new.items) result ≡ numbers_within N (words_of spaces line.now) }
+    ensures none_left { IfNone result (numbers.new.items ≡ []) }
+{
+    let read = read_parts(line, spaces, numbers);
+    if read.is_none() {
+        numbers.clear();
+    }
+    read
 }
 
 // A flag is 0 or 1.

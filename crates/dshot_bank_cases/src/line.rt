@@ -1,5 +1,6 @@
 // Makes the call of one line, and prints what it gave.
 
+use crate::numbers::Numbers;
 use crate::slots::Buffers;
 use crate::{calls, fields, numbers, orders, put, slots};
 use dshot_bank::DshotBank;
@@ -10,12 +11,13 @@ use std::io::Write;
 pub(crate) fn run(
     out: &mut impl Write,
     line: &[u8],
+    numbers: &mut Numbers,
     bank: DshotBank,
     buffers: &mut Buffers,
 ) -> io::Result<Option<DshotBank>> {
-    let Some(numbers) = numbers::read_line(line) else {
+    if numbers::read_line(line, numbers).is_none() {
         return Ok(None);
-    };
+    }
     let [code, given @ ..] = numbers.as_slice() else {
         return Ok(None);
     };

@@ -22,18 +22,18 @@ mod services;
 mod sets;
 mod slots;
 
-use case_text::input::read_first;
+use crate::numbers::Numbers;
+use crate::put::Out;
+use case_text::input::read_full;
 use dshot::DshotTiming;
 use dshot_bank::DshotBank;
 use std::io;
-use std::io::{BufWriter, Write};
+use std::io::{Stdout, Write};
 
-const MOST_BYTES: u64 = 65536;
+const MOST_BYTES: usize = 65536;
 
-// What is printed goes through a buffer of so many bytes, so that a list takes few writes.
-const MOST_PRINTED: usize = 65536;
-
-fn run_list(out: &mut impl Write, text: &[u8]) -> io::Result<()> {
+fn run_list(to: Stdout, text: &[u8]) -> io::Result<()> {
+    let mut out = Out::new(to);
     let mut bank = DshotBank::from_lanes(DshotTiming {
         arr: 0,
         zero_high: 0,
@@ -41,22 +41,23 @@ fn run_list(out: &mut impl Write, text: &[u8]) -> io::Result<()> {
         reply_sample_arr: 0,
     });
     let mut buffers = slots::zeros();
+    let mut numbers = Numbers::new();
     for (number, line) in (1u64..).zip(text.split_inclusive(|byte| *byte == b'\n')) {
         let line = line.strip_suffix(b"\n").unwrap_or(line);
-        let Some(after) = line::run(out, line, bank, &mut buffers)? else {
+        let Some(after) = line::run(&mut out, line, &mut numbers, bank, &mut buffers)? else {
             writeln!(out, "unreadable line {number}")?;
             break;
         };
         bank = after;
     }
-    out.flush()
+    out.finish()
 }
 
 fn main(rt: HostRuntime) -> io::Result<()> {
-    let text = read_first(rt.alloc(), &mut rt.stdin(), MOST_BYTES)?;
-    if text.len() as u64 == MOST_BYTES {
+    let mut text = [0u8; MOST_BYTES];
+    let length = read_full(&mut rt.stdin(), &mut text)?;
+    if length == MOST_BYTES {
         return rt.println("list too long");
     }
-    let mut out = BufWriter::with_capacity(rt.alloc(), MOST_PRINTED, rt.stdout())?;
-    run_list(&mut out, &text)
+    run_list(rt.stdout(), &text[..length])
 }

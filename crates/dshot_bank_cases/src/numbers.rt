@@ -6,9 +6,11 @@ use case_text::numbers::{Spaces, flag, read_words};
 // The most numbers that a line has: eighteen, and two for each of 700 runs.
 const MOST_NUMBERS: usize = 1418;
 
+pub type Numbers = ArrayVec<u64, MOST_NUMBERS>;
+
 // Reads numbers with one space between them. Nothing else may stand there.
-pub(crate) fn read_line(line: &[u8]) -> Option<ArrayVec<u64, MOST_NUMBERS>> {
-    read_words(line, Spaces::One)
+pub(crate) fn read_line(line: &[u8], numbers: &mut Numbers) -> Option<()> {
+    read_words(line, Spaces::One, numbers)
 }
 
 // A flag for each lane.

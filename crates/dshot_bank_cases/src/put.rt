@@ -1,7 +1,55 @@
 // Prints parts of a line.
 
+use arrayvec::ArrayVec;
 use std::io;
-use std::io::Write;
+use std::io::{Error, Stdout, Write};
+
+// What is printed is gathered, so that a list takes few writes. The room is an array, so that no memory is asked for.
+const MOST_PRINTED: usize = 65536;
+
+// What is gathered, where it is written, and why the first write that failed did. A list goes on after a failed write.
+#[derive(Drop)]
+pub struct Out {
+    to: Stdout,
+    gathered: ArrayVec<u8, MOST_PRINTED>,
+    error: Option<Error>,
+}
+
+impl Out {
+    pub(crate) fn new(to: Stdout) -> Self {
+        Out {
+            to,
+            gathered: ArrayVec::new(),
+            error: None,
+        }
+    }
+
+    fn write_gathered(&mut self) {
+        if let Err(error) = self.to.write_all(self.gathered.as_slice()) {
+            self.error = self.error.or(Some(error));
+        }
+        self.gathered.clear();
+    }
+
+    // Writes what is left. If a write failed, the answer says why.
+    pub(crate) fn finish(&mut self) -> io::Result<()> {
+        self.write_gathered();
+        self.error.map_or(Ok(()), Err)
+    }
+}
+
+impl Write for Out {
+    fn write(&mut self, bytes: &[u8]) -> io::Result<usize> {
+        if self.gathered.is_full() {
+            self.write_gathered();
+        }
+        self.gathered.write(bytes)
+    }
+
+    fn flush(&mut self) -> io::Result<()> {
+        Ok(())
+    }
+}
 
 pub(crate) fn numbers(out: &mut impl Write, numbers: &[u64]) -> io::Result<()> {
     for number in numbers {

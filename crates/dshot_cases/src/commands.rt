@@ -44,9 +44,12 @@ pub(crate) fn run(fields: &[u64]) -> Option<bool> {
 pub(crate) fn step(fields: &[u64]) -> Option<bool> {
     let (before, stored) = fields.split_first_chunk::<4>()?;
     let (given, after) = stored.split_first_chunk::<2>()?;
+    let after = after.as_array::<4>()?;
+    // Its two commands have sixteen bits, or the record is unreadable.
+    after[..2].as_array::<2>()?.try_map(u16::try_from).ok()?;
     let mut run = run_of(*before)?;
     let found = of_step(run.next_value());
-    Some(found == *given && of_run(run) == *after.as_array::<4>()?)
+    Some(found == *given && of_run(run) == *after)
 }
 
 // 19 STARTED DURATION NOW EXPIRED

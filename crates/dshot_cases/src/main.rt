@@ -13,16 +13,17 @@ mod records;
 mod report;
 mod sequences;
 
+use crate::numbers::Numbers;
 use crate::report::Report;
-use case_text::input::read_first;
+use case_text::input::read_full;
 use std::io;
 
 // Room for a list, and for one byte more. If a list fills it, it may be cut off.
-const MOST_BYTES: u64 = 131072;
+const MOST_BYTES: usize = 131072;
 
 // Replays the record of a line, if it has one. Answers whether nothing differs, if the record can be read.
-fn replay_line(line: &[u8], report: &mut Report) -> Option<bool> {
-    let numbers = numbers::read_line(line)?;
+fn replay_line(line: &[u8], numbers: &mut Numbers, report: &mut Report) -> Option<bool> {
+    numbers::read_line(line, numbers)?;
     let [kind, fields @ ..] = numbers.as_slice() else {
         return Some(true);
     };
@@ -33,8 +34,10 @@ fn replay_line(line: &[u8], report: &mut Report) -> Option<bool> {
 
 fn replay_list(rt: &impl Print, text: &[u8]) -> io::Result<()> {
     let mut report = Report::new();
+    let mut numbers = Numbers::new();
     for (number, line) in (1u64..).zip(text.split_inclusive(|byte| *byte == b'\n')) {
-        match replay_line(line.strip_suffix(b"\n").unwrap_or(line), &mut report) {
+        let line = line.strip_suffix(b"\n").unwrap_or(line);
+        match replay_line(line, &mut numbers, &mut report) {
             Some(true) => {}
             Some(false) => println!(rt; "differs: line {number}")?,
             None => return println!(rt; "unreadable: line {number}"),
@@ -44,9 +47,10 @@ fn replay_list(rt: &impl Print, text: &[u8]) -> io::Result<()> {
 }
 
 fn main(rt: HostRuntime) -> io::Result<()> {
-    let text = read_first(rt.alloc(), &mut rt.stdin(), MOST_BYTES)?;
-    if text.len() as u64 == MOST_BYTES {
+    let mut text = [0u8; MOST_BYTES];
+    let length = read_full(&mut rt.stdin(), &mut text)?;
+    if length == MOST_BYTES {
         return rt.println("list too long");
     }
-    replay_list(&rt, &text)
+    replay_list(&rt, &text[..length])
 }

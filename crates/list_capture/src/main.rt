@@ -7,11 +7,12 @@
 // If there is more than one argument, it says so on standard error and writes no line. It does the same if the file cannot be opened or read, and then
 // says why, as if the line cannot be written. Its exit status is always 0. So a script tests whether standard output is empty.
 //
-// If an input is longer than 65536 bytes, the rest is not read. It is refused with 17 (not a capture), as the whole input would be. The longest file that
-// holds a capture has 12294 bytes.
+// If an input is longer than the buffer, it is cut at the buffer's end. It is refused with 17 (not a capture), as the whole input would be. The longest
+// file that holds a capture has 12294 bytes, and the buffer has 65536.
 #![tactic(auto)]
 
-ghost use Rattle.std.specs.Prelude.{◌≡◌, take, IfOk, IfSome};
+ghost use Rattle.std.specs.Prelude.{◌≡◌, length, take, IfOk, IfSome};
+ghost use Rattle.std.specs.Io.{ReadsAtMost};
 
 use capture_file::list::file_line;
 use std::env::{Env, FillError};
@@ -19,7 +20,7 @@ use std::fs::File;
 use std::io::{self, Error, IsTerminal, Read};
 use std::str;
 
-const MOST_BYTES: u64 = 65536;
+const MOST_BYTES: usize = 65536;
 
 // The most bytes of a name that are taken.
 const MOST_NAME: usize = 4096;
@@ -33,7 +34,7 @@ fn main(rt: HostRuntime) {
     match rt.arg(1, &mut path) {
         Ok(length) => list_argument(&rt, &path[..length]),
         Err(FillError::TooLong) => say(&rt, "FILE", "File name too long"),
-        Err(FillError::NotPresent) => list(&rt, "standard input", read_standard_input(&rt)),
+        Err(FillError::NotPresent) => list_standard_input(&rt),
     }
 }
 
@@ -44,38 +45,49 @@ fn is_given(rt: &impl Env, number: usize) -> bool {
 
 fn list_argument(rt: &HostRuntime, path: &[u8]) {
     match str::from_utf8(path) {
-        Ok(name) => list(rt, name, read_file(rt, name)),
+        Ok(name) => list_path(rt, name),
         Err(_) => say(rt, "FILE", "the name is not UTF-8"),
     }
 }
 
-fn read_file(rt: &HostRuntime, name: &str) -> io::Result<Vec<u8>> {
-    read_input(rt, &mut File::open(rt, name)?)
+fn list_path(rt: &HostRuntime, name: &str) {
+    match File::open(rt, name) {
+        Ok(mut file) => list(rt, name, &mut file),
+        Err(error) => fail(rt, name, error),
+    }
 }
 
-fn read_standard_input(rt: &HostRuntime) -> io::Result<Vec<u8>> {
+fn list_standard_input(rt: &HostRuntime) {
     let mut input = rt.stdin();
     if input.is_terminal() {
         let _ = rt.eprintln("list_capture: waiting for a capture file on standard input");
     }
-    read_input(rt, &mut input)
+    list(rt, "standard input", &mut input);
 }
 
-// Reads the first `MOST_BYTES` bytes of an input, or all if it has no more.
-fn read_input<R: Read>(rt: &HostRuntime, input: &mut R) -> io::Result<Vec<u8>>
-    ensures { IfOk result (λ file. IfSome (R.remaining input.old) (λ bytes. file.items ≡ take MOST_BYTES bytes)) }
-{
-    let mut file = Vec::new(rt.alloc());
-    input.take(MOST_BYTES).read_to_end(&mut file)?;
-    Ok(file)
-}
-
-// Writes the line of a file, or says why it could not be read.
-fn list(rt: &HostRuntime, name: &str, file: io::Result<Vec<u8>>) {
-    match file {
-        Ok(file) => write_line(rt, &file),
+// Writes the line of an input, or says why it could not be read. The buffer is an array, so that a line can be written without asking for memory.
+fn list<R: Read>(rt: &HostRuntime, name: &str, input: &mut R) {
+    let mut buffer = [0u8; MOST_BYTES];
+    match read_input(input, &mut buffer) {
+        Ok(length) => write_line(rt, &buffer[..length]),
         Err(error) => fail(rt, name, error),
     }
+}
+
+// Reads until the buffer is full or the input ends, and answers how many bytes at its start were read.
+fn read_input<R: Read>(input: &mut R, buffer: &mut [u8]) -> io::Result<usize>
+    ensures read { IfOk result (λ n. IfSome (R.remaining input.old) (λ bytes. take n buffer.new ≡ take (length buffer.old) bytes)) }
+    ensures in_bounds { ReadsAtMost result buffer.new }
+{
+    let mut done = 0;
+    while done < buffer.len() {
+        let more = input.read(&mut buffer[done..])?;
+        if more == 0 {
+            break;
+        }
+        done += more;
+    }
+    Ok(done)
 }
 
 fn write_line(rt: &HostRuntime, file: &[u8]) {

@@ -1,19 +1,13 @@
--- `list_capture::read_input` reads the first bytes of an input whose bytes are known.
+-- `list_capture::read_input` meets its contract: what a turn reads stands behind what is there.
 -- Assumes nothing.
-use mathlib.Core.Path.{◌≡◌}
-use mathlib.Core.List.{List, [], ◌++◌}
-use Prim.Native.Nat.{ℕ}
-use lib.ListN.{take}
-use Rattle.std.specs.Prelude.{Option, Some, None, IfSome}
-use Rattle.std.specs.Option.{option_map}
+use Rattle.std.proofs.Common.{rules}
+use Rattle.capture_file.proofs.InputLaws.{more-read}
 use Rattle.list_capture.proofs.read_input.Goals as goal
 
-first-bytes : (o : Option (List ℕ)) (n : ℕ) (before all : List ℕ) → before ≡ [] → IfSome (option_map (take n) o) (λ xs. all ≡ before ++ xs)
-    → IfSome o (λ bytes. all ≡ take n bytes)
-first-bytes None n before all e h = h
-first-bytes (Some bytes) n before all e h = rw e at h
-
-pub returns : goal.returns
-returns g c =
-    first-bytes (g.R.Read.remaining c.args.input.now) 65536 _ _ c.new-file.ensures.items
-    (rw (c.take.ensures.limit, c.take.ensures.inner) at c.in_ok-read_to_end.ensures.bytes)
+pub loop-done-preserved : goal.loop-done-preserved
+loop-done-preserved g c = (
+  search rules,
+  search rules,
+  more-read _ _ _ c.loop-done.done c.in_ok-more.more c.loop-done.buffer c.read.new.buf c.loop-done.invariant.1 c.in_ok-more.ensures.bound.0
+      c.loop-done.invariant.2 c.in_ok-more.ensures.bytes.0,
+)
