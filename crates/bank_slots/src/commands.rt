@@ -44,7 +44,12 @@ pub fn from_lanes(timing: &[u16], bank: &mut [u16]) -> Result<(), Refusal>
     let state = bank.as_mut_array::<SLOTS>().ok_or(Refusal::WrongLength)?;
     let timing = timing.as_array::<4>().ok_or(Refusal::WrongLength)?;
     state.fill(0);
-    state[..VALUES].copy_from_slice(timing);
+    // Each slot is read by itself. A host has often just written them one by one, and a read of all four together would wait for it.
+    let [arr, zero_high, one_high, reply_sample_arr] = timing;
+    state[0] = *arr;
+    state[1] = *zero_high;
+    state[2] = *one_high;
+    state[3] = *reply_sample_arr;
     // No lane's window was ever read.
     let no_reply = stored_kind(Err(DshotReplyError::NoReply));
     for lane in 0..LANES {

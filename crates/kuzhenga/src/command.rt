@@ -33,8 +33,9 @@ pub extern "C" fn kuzhenga_throttle_to_dshot(value: u32) -> u32
 fn throttles(values: &[u16]) -> Result<MotorValues, WrongLength>
     ensures { answer (λ l. l) (λ _. wrong_length) result ≡ asked 4 values.now (given (throttle_values 4 values.now)) }
 {
-    let values = values.as_array().ok_or(WrongLength)?;
-    Ok(throttles_to_dshot(*values))
+    // Each slot is read by itself. A host has often just written them one by one, and a read of all four together would wait for it.
+    let [a, b, c, d] = values.as_array::<4>().ok_or(WrongLength)?;
+    Ok(throttles_to_dshot([*a, *b, *c, *d]))
 }
 
 // The DShot values of four throttles.
