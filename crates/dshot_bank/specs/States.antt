@@ -1,7 +1,6 @@
 -- What the code's state means in the terms of the definitions. Stands for `DshotBank` of the Rust's dshot_bank.rs.
 -- Assumes nothing.
-use Rattle.std.specs.Prelude.{ℕ, Bool, List, map, nat_lt, if◌then◌else◌}
-use Rattle.std.specs.Option.{is_some}
+use Rattle.std.specs.Prelude.{ℕ, List, map, nat_lt, if◌then◌else◌}
 use Rattle.std.specs.Prelude as Std
 use Rattle.std.proofs.Math.Option.{Option, none, some}
 use Rattle.dshot_reply_spec.specs.Answer as Reply
@@ -40,13 +39,6 @@ option_of meaning (Std.Some value) = some (meaning value)
 -- the Rust's `Option<DshotMotor>`
 abbrev pub choice_of : Std.Option DshotMotor → Option ℕ
 choice_of = option_of motor_of
-
--- The masks of the lanes' captures: whether each lane has one, and its mask. Without a capture it is 0.
-abbrev pub present_of : List (Std.Option ℕ) → List Bool
-present_of l = map is_some l
-
-abbrev pub masks_of : List (Std.Option ℕ) → List ℕ
-masks_of l = map (λ mask. Std.unwrap_or mask 0) l
 
 -- the motor of a lane; there are four
 abbrev pub motor_at : ℕ → Option ℕ

@@ -15,21 +15,24 @@ ghost use Rattle.dshot_bank_spec.specs.Replies.{window, read_window, count_reply
 ghost use Rattle.dshot_bank_spec.specs.Calls as Call;
 ghost use Rattle.dshot_bank_spec.specs.Calls.{reply_counts};
 ghost use Rattle.dshot_bank_spec.specs.Steps.{step};
-ghost use Rattle.dshot_bank.specs.States.{present_of, masks_of, stored_answer, lane_reply_of, replies_of, state_of, stepped};
+ghost use Rattle.dshot_bank.specs.States.{stored_answer, lane_reply_of, replies_of, state_of, stepped};
 ghost use Rattle.dshot_bank.specs.Answers.{answers_of, taken_answer, reply_stats_of};
 
 use crate::{Answered, DshotBank, LANES, LaneReply, Samples, StoredReply};
+use dshot::MotorValues;
 use dshot_reply::{DshotReply, DshotReplyError, REPLY_WINDOW_SAMPLES, decode_sampled_reply};
 use std::array;
 
 // An answer of the hardware for each lane.
 pub type LaneFlags = [bool; LANES];
 
-// What the hardware answers at a service: for each lane whether it took its buffer, and the mask of its capture, if it has one.
+// What the hardware answers at a service: for each lane whether it took its buffer, whether it has a capture, and the mask of its pin in that
+// capture. Without a capture the mask is not read.
 #[derive(Clone, Copy, Debug, PartialEq, Eq)]
 pub struct LaneAnswers {
     pub taken: LaneFlags,
-    pub masks: [Option<u16>; LANES],
+    pub present: LaneFlags,
+    pub masks: MotorValues,
 }
 
 pub type DshotReplies = [Result<DshotReply, DshotReplyError>; LANES];
@@ -140,12 +143,13 @@ fn read_window(captures: &Samples, lane: usize, mask: Option<u16>) -> StoredRepl
 }
 
 // Each lane's reply. With `array::from_fn` the proof does not close.
-fn read_windows(masks: [Option<u16>; LANES], captures: &Samples) -> [StoredReply; LANES]
-    ensures { map stored_answer result ≡ tabulate 4 (λ lane. read_window (get_or (present_of masks) lane false) (window captures.now lane) (get_or (masks_of masks) lane 0)) }
+fn read_windows(answers: LaneAnswers, captures: &Samples) -> [StoredReply; LANES]
+    ensures { map stored_answer result ≡ tabulate 4 (λ lane. read_window (get_or answers.present lane false) (window captures.now lane) (get_or answers.masks lane 0)) }
 {
     let mut reads = [StoredReply::NoReply; LANES];
     for lane in 0..LANES {
-        reads[lane] = read_window(captures, lane, masks[lane]);
+        let mask = answers.present[lane].then_some(answers.masks[lane]);
+        reads[lane] = read_window(captures, lane, mask);
     }
     reads
 }
@@ -162,12 +166,12 @@ fn count_replies(old: [LaneReply; LANES], reads: [StoredReply; LANES]) -> [LaneR
 #[tactic(auto, unfolding(dshot_bank_spec::specs::Replies::decode_replies, dshot_spec::specs::Tabulate::tabulate))]
 pub(crate) fn decode_replies(
     old: [LaneReply; LANES],
-    masks: [Option<u16>; LANES],
+    answers: LaneAnswers,
     captures: &Samples,
 ) -> [LaneReply; LANES]
-    ensures { replies_of result ≡ decode_replies 4 (present_of masks) (masks_of masks) captures.now (replies_of old) }
+    ensures { replies_of result ≡ decode_replies 4 answers.present answers.masks captures.now (replies_of old) }
 {
-    count_replies(old, read_windows(masks, captures))
+    count_replies(old, read_windows(answers, captures))
 }
 
 fn reads_of(lanes: [LaneReply; LANES]) -> DshotReplies

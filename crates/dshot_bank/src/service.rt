@@ -10,7 +10,7 @@ ghost use Rattle.dshot_bank_spec.specs.Service.{demand_expired, expire_lease, se
 ghost use Rattle.dshot_bank_spec.specs.Service as Spec;
 ghost use Rattle.dshot_bank_spec.specs.Calls.{Stepped, service_call};
 ghost use Rattle.dshot_bank_spec.specs.Steps.{service_fits, step};
-ghost use Rattle.dshot_bank.specs.States.{present_of, masks_of, demand_of, core_of, replies_of, bank_of};
+ghost use Rattle.dshot_bank.specs.States.{demand_of, core_of, replies_of, bank_of};
 ghost use Rattle.dshot_bank.specs.Orders.{held, orders_of, Just};
 ghost use Rattle.dshot_bank.specs.Serves.{service_event_of, service_answer, Skips, Serves};
 
@@ -122,14 +122,14 @@ pub fn sent_event(started: bool, lease_expired: bool) -> DshotServiceEvent
 impl DshotBank {
     // Decodes the last receive window, if one waits.
     #[tactic(auto, unfolding(dshot_bank_spec::specs::Service::replies_read, dshot_bank_spec::specs::Service::read_replies))]
-    fn read_replies(mut self, masks: [Option<u16>; LANES], captures: &Samples) -> Self
+    fn read_replies(mut self, answers: LaneAnswers, captures: &Samples) -> Self
         ensures core { core_of result.core ≡ replies_read (core_of self.core) }
-        ensures replies { replies_of result.replies ≡ read_replies 4 self.core.frame.replies_waiting (present_of masks) (masks_of masks) captures.now (replies_of self.replies) }
+        ensures replies { replies_of result.replies ≡ read_replies 4 self.core.frame.replies_waiting answers.present answers.masks captures.now (replies_of self.replies) }
     {
         if self.core.frame.replies_waiting {
             self.core.frame.replies_waiting = false;
             self.core.frame.replies_held = true;
-            self.replies = decode_replies(self.replies, masks, captures);
+            self.replies = decode_replies(self.replies, answers, captures);
         }
         self
     }
@@ -167,7 +167,7 @@ impl DshotBank {
         second: &mut Slots,
         captures: &Samples,
     ) -> Served
-        ensures { Serves result (record { first = first.exit.now; second = second.new }) (Spec.service 4 now_ms answers.taken (present_of answers.masks) (masks_of answers.masks) captures.now (bank_of self) (record { first = first.entry.now; second = second.old })) }
+        ensures { Serves result (record { first = first.exit.now; second = second.new }) (Spec.service 4 now_ms answers.taken answers.present answers.masks captures.now (bank_of self) (record { first = first.entry.now; second = second.old })) }
     {
         let replies = self.replies;
         let mut core = self.core;
@@ -182,7 +182,7 @@ impl DshotBank {
             return core.service_busy(now_ms, lease_expired).served(replies);
         }
         DshotBank { core, replies }
-            .read_replies(answers.masks, captures)
+            .read_replies(answers, captures)
             .send(lease_expired, now_ms, answers.taken, first, second)
     }
 
@@ -208,7 +208,7 @@ impl DshotBank {
         second: &mut [u16],
         captures: &[u16],
     ) -> Served
-        ensures fact { ◌≡◌ {A = Stepped} (record { answer = service_answer result.answer (orders_of result.orders result.first_duties) (bank_of self).core.frame.in_second; state = record { bank = bank_of result.bank; buffers = record { first = first.exit.now; second = second.new } } }) (step 4 (record { bank = bank_of self; buffers = record { first = first.entry.now; second = second.old } }) (service_call now_ms answers.taken (present_of answers.masks) (masks_of answers.masks) captures.now)) }
+        ensures fact { ◌≡◌ {A = Stepped} (record { answer = service_answer result.answer (orders_of result.orders result.first_duties) (bank_of self).core.frame.in_second; state = record { bank = bank_of result.bank; buffers = record { first = first.exit.now; second = second.new } } }) (step 4 (record { bank = bank_of self; buffers = record { first = first.entry.now; second = second.old } }) (service_call now_ms answers.taken answers.present answers.masks captures.now)) }
         ensures just { Just result.orders result.first_duties (service_answer result.answer (orders_of result.orders result.first_duties) (bank_of self).core.frame.in_second) }
     {
         let Some(first) = first.as_mut_array() else {

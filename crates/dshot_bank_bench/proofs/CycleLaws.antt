@@ -1,15 +1,11 @@
 -- What the cycles of a bank rest on.
 -- Assumes nothing.
-use Rattle.std.proofs.Common.{◌≡◌, ℕ, zero, suc, ◌+◌, ◌*◌, ◌/◌, ◌%◌, ◌<◌, ◌≤◌, Bool, true, false, List, [], ◌∷◌, length, replicate, get_or, refl, take, drop, drop-cons, drop-drop, ap, ◌∙◌, add-one, arith}
-use Rattle.std.specs.Bool.{then_some}
+use Rattle.std.proofs.Common.{◌≡◌, ℕ, zero, suc, ◌+◌, ◌*◌, ◌/◌, ◌%◌, ◌<◌, ◌≤◌, Bool, true, false, List, [], ◌∷◌, length, get_or, take, drop, drop-cons, drop-drop, ap, ◌∙◌, add-one, arith}
 use Rattle.std.specs.Simd.{first_chunks}
-use Rattle.dshot_spec.specs.Tabulate.{tabulate, part}
-use Rattle.dshot_bank_spec.specs.Calls.{service_call, on_dma_interrupt_call}
-use Rattle.dshot_bank_spec.specs.Steps.{port_refusal, step}
-use Rattle.dshot_bank_spec.specs.Service.{read_replies, service_core}
-use Rattle.dshot_bank_spec.specs.Replies.{decode_replies}
+use Rattle.dshot_spec.specs.Tabulate.{part}
+use Rattle.dshot_bank_spec.specs.Calls.{on_dma_interrupt_call}
 use Rattle.dshot_bank.specs.declared.LaneReply.{LaneReply}
-use Rattle.dshot_bank.specs.States.{present_of, masks_of, lane_reply_of, replies_of}
+use Rattle.dshot_bank.specs.States.{lane_reply_of, replies_of}
 use Rattle.dshot_bank_bench.specs.Cycles.{Run, after, interrupts, throttles_at, cycle, cycles, no_lane}
 
 -- one interrupt more, one cycle more
@@ -55,11 +51,3 @@ four_at xs i h =
     ∙ ap (λ l. get_or xs a 0 ∷ get_or xs (suc a) 0 ∷ l) (drop-cons xs (suc (suc a)) 0 (omega arith))
     ∙ ap (λ l. get_or xs a 0 ∷ get_or xs (suc a) 0 ∷ get_or xs (suc (suc a)) 0 ∷ l) (drop-cons xs (suc (suc (suc a))) 0 (omega arith)))
     ∙ (λ j. get_or xs a 0 ∷ get_or xs (one j) 0 ∷ get_or xs (two j) 0 ∷ get_or xs (three j) 0 ∷ [])
-
--- Without captures the masks do not count.
-pub served : (present : Bool) (mask now : ℕ) (samples : List ℕ) (r : Run)
-    → after r (service_call now (replicate 4 true) (present_of (replicate 4 (then_some present mask))) (masks_of (replicate 4 (then_some present mask))) samples)
-    ≡ after r (service_call now (replicate 4 true) (replicate 4 present) (replicate 4 mask) samples)
-unfolding step port_refusal service_core read_replies decode_replies tabulate
-served true mask now samples r = refl
-served false mask now samples r = refl

@@ -2,12 +2,11 @@
 #![tactic(auto)]
 
 ghost use Rattle.std.specs.Prelude.{◌≡◌, ◌*◌, ◌/◌, true, false, not, length, replicate, ◌==◌};
-ghost use Rattle.std.specs.Bool.{then_some};
 ghost use Rattle.dshot_reply_spec.specs.Answer.{refusal_number, filled};
 ghost use Rattle.dshot_spec.specs.Tabulate.{tabulate};
 ghost use Rattle.dshot_bank_spec.specs.State.{Buffers};
 ghost use Rattle.dshot_bank_spec.specs.Calls.{command_throttles_call, service_call, on_dma_interrupt_call};
-ghost use Rattle.dshot_bank.specs.States.{present_of, masks_of, stored_answer, bank_of};
+ghost use Rattle.dshot_bank.specs.States.{stored_answer, bank_of};
 ghost use Rattle.dshot_bank_bench.specs.Cycles.{add_all, numbers_in, after, past, speed, count_at, asked, fit, first_of, second_of, counts_of};
 ghost use Rattle.dshot_bank_bench.specs.Runs.{run_of};
 ghost use Rattle.dshot_bank_bench.specs.Cycles as Spec;
@@ -44,11 +43,12 @@ struct Setup {
 impl Setup {
     // All buffers are taken.
     fn answers(self) -> LaneAnswers
-        ensures { (result.taken ≡ replicate 4 true) × (result.masks ≡ replicate 4 (then_some self.present self.mask)) }
+        ensures { (result.taken ≡ replicate 4 true) × (result.present ≡ replicate 4 self.present) × (result.masks ≡ replicate 4 self.mask) }
     {
         LaneAnswers {
             taken: [true; LANES],
-            masks: [self.present.then_some(self.mask); LANES],
+            present: [self.present; LANES],
+            masks: [self.mask; LANES],
         }
     }
 }
@@ -125,7 +125,7 @@ impl Run {
         first: &mut [u16],
         second: &mut [u16],
     ) -> Self
-        ensures { ◌≡◌ {A = Spec.Run} (run_of result (record { first = first.exit.now; second = second.new })) (after (run_of self (record { first = first.entry.now; second = second.old })) (service_call now_ms answers.taken (present_of answers.masks) (masks_of answers.masks) captures.now)) }
+        ensures { ◌≡◌ {A = Spec.Run} (run_of result (record { first = first.exit.now; second = second.new })) (after (run_of self (record { first = first.entry.now; second = second.old })) (service_call now_ms answers.taken answers.present answers.masks captures.now)) }
     {
         let served = self.bank.service(now_ms, answers, first, second, captures);
         Run {

@@ -8,7 +8,6 @@ use case_text::captures::unroll;
 use dshot_bank::DshotBank;
 use dshot_bank::replies::LaneAnswers;
 use dshot_bank::service::Served;
-use std::array;
 
 const MOST_SAMPLES: usize = 700;
 
@@ -29,8 +28,11 @@ pub(crate) fn service(given: &[u64], bank: DshotBank, buffers: &mut Buffers) -> 
     let taken = flags(*taken)?;
     let present = flags(*present)?;
     let masks = masks.try_map(u16::try_from).ok()?;
-    let masks = array::from_fn(|lane| present[lane].then_some(masks[lane]));
-    let answers = LaneAnswers { taken, masks };
+    let answers = LaneAnswers {
+        taken,
+        present,
+        masks,
+    };
     let mut captures = [0; MOST_SAMPLES];
     let captures = captures.get_mut(..*samples as usize)?;
     unroll(runs, *stated, captures)?;

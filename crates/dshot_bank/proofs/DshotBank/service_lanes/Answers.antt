@@ -6,7 +6,7 @@ use Rattle.dshot_bank_spec.specs.State.{Core, Buffers}
 use Rattle.dshot_bank_spec.specs.Commands.{clear_request_sent}
 use Rattle.dshot_bank_spec.specs.Service.{expire_lease, service_busy, skipped, unsent, service_core}
 use Rattle.dshot_bank_spec.specs.Service as Spec
-use Rattle.dshot_bank.specs.States.{present_of, masks_of, core_of, replies_of}
+use Rattle.dshot_bank.specs.States.{core_of, replies_of}
 use Rattle.dshot_bank.specs.declared.send.Handled.{Handled}
 use Rattle.dshot_bank.specs.declared.service.DshotServiceEvent.{DshotServiceEvent}
 use Rattle.dshot_bank.specs.Serves.{service_event_of, Serves}
@@ -36,6 +36,6 @@ returns-then-core-2 c =
     let leased = c.expire_lease-lease_expired.ensures.core ∙ (λ j. expire_lease 4 (expired j) cleared) in
     let busy = sym (ap (λ (q : Core). q.frame.busy) leased) ∙ c.if-core-2.true in
     subst (λ (s : Spec.Served). Serves c.served-then-core-2.result b s)
-    ((λ j. unsent 4 a.now_ms a.answers.taken (present_of a.answers.masks) (masks_of a.answers.masks) a.captures.now (replies_of a.self.replies) b (service_busy 4 a.now_ms (expired j) (leased j)))
+    ((λ j. unsent 4 a.now_ms a.answers.taken a.answers.present a.answers.masks a.captures.now (replies_of a.self.replies) b (service_busy 4 a.now_ms (expired j) (leased j)))
     ∙ off _ _ c.if-core.false (on _ _ busy refl))
     (c.served-then-core-2.ensures b _ c.service_busy.ensures)

@@ -3,11 +3,9 @@
 use Rattle.std.proofs.Common.{ap, ◌∙◌}
 use Rattle.dshot_bank_spec.specs.State.{Buffers}
 use Rattle.dshot_bank_spec.specs.Calls.{command_throttles_call, service_call}
-use Rattle.dshot_bank.specs.States.{present_of, masks_of}
 use Rattle.dshot_bank_bench.specs.Cycles as Spec
 use Rattle.dshot_bank_bench.specs.Cycles.{after, past}
 use Rattle.dshot_bank_bench.specs.Runs.{run_of}
-use Rattle.dshot_bank_bench.proofs.CycleLaws.{served}
 use Rattle.dshot_bank_bench.proofs.Run.cycle.Goals as goal
 
 pub returns : goal.returns
@@ -23,6 +21,5 @@ returns c =
     c.interrupts.ensures end
     ∙ ap (λ (r : Spec.Run). Spec.interrupts a.setup.interrupts r)
     (c.serve.ensures
-    ∙ ap (λ (r : Spec.Run). after r (service_call n answers.taken (present_of answers.masks) (masks_of answers.masks) samples)) (c.throttle.ensures start)
-    ∙ (λ j. after thrown (service_call n (told.0 j) (present_of (told.1 j)) (masks_of (told.1 j)) samples))
-    ∙ served a.setup.present a.setup.mask n samples thrown)
+    ∙ ap (λ (r : Spec.Run). after r (service_call n answers.taken answers.present answers.masks samples)) (c.throttle.ensures start)
+    ∙ (λ j. after thrown (service_call n (told.0 j) (told.1 j) (told.2 j) samples)))
