@@ -222,6 +222,22 @@ pub fn encode_lanes(
     duties
 }
 
+// The same for any two buffers. If one has another length, the call is refused and writes nothing.
+pub fn encode_spares(
+    first: &mut [u16],
+    second: &mut [u16],
+    in_second: LaneFlags,
+    packets: MotorPackets,
+    timing: DshotTiming,
+) -> Result<MotorValues, WrongLength>
+    ensures value { answer (λ d. d) encode_error_number result ≡ (if slots_fit 4 (length first.old) (length second.old) then given (first_duties 4 (timing_of timing) (words packets)) else refused wrong_length) }
+    ensures fact { ◌≡◌ {A = Buffers} (record { first = first.exit.now; second = second.new }) (if slots_fit 4 (length first.entry.now) (length second.old) then encode_lanes 4 (timing_of timing) in_second (words packets) (record { first = first.entry.now; second = second.old }) else record { first = first.entry.now; second = second.old }) }
+{
+    let first: &mut Slots = first.as_mut_array().ok_or(WrongLength)?;
+    let second: &mut Slots = second.as_mut_array().ok_or(WrongLength)?;
+    Ok(encode_lanes(first, second, in_second, packets, timing))
+}
+
 // ---- the exchange
 
 fn first_off(flags: LaneFlags) -> Option<usize>

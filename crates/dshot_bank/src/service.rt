@@ -14,6 +14,7 @@ ghost use Rattle.dshot_bank.specs.States.{demand_of, core_of, replies_of, bank_o
 ghost use Rattle.dshot_bank.specs.Orders.{held, orders_of, Just};
 ghost use Rattle.dshot_bank.specs.Serves.{service_event_of, service_answer, Skips, Serves};
 
+use crate::looks::buffers_fit;
 use crate::orders::Orders;
 use crate::replies::{LaneAnswers, LaneFlags, decode_replies};
 use crate::send::Handled;
@@ -117,6 +118,13 @@ pub fn sent_event(started: bool, lease_expired: bool) -> DshotServiceEvent
     } else {
         DshotServiceEvent::FrameStarted
     }
+}
+
+// Whether two buffers and the captures have the lengths that a service takes.
+pub fn lengths_fit(first: usize, second: usize, captures: usize) -> bool
+    ensures { result ≡ service_fits 4 first second captures }
+{
+    buffers_fit(first, second) && captures == SAMPLES
 }
 
 impl DshotBank {
