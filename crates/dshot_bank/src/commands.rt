@@ -166,7 +166,7 @@ impl Demand {
         Ok(Demand {
             requested_values: throttles_to_dshot(commands),
             lease_started_ms: now_ms,
-            lease_duration_ms: Some(lease_duration_ms),
+            lease_duration_ms: Some(u64::from(lease_duration_ms)),
         })
     }
 }

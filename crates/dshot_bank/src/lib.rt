@@ -136,7 +136,8 @@ pub struct DshotStats {
 pub struct Demand {
     pub requested_values: MotorValues,
     pub lease_started_ms: u64,
-    pub lease_duration_ms: Option<u32>,
+    // No call makes a lease that 32 bits don't hold.
+    pub lease_duration_ms: Option<u64>,
 }
 
 // Special-command frames still to send, for one motor. They are sent only while every throttle is zero. If a throttle demand is in force when a

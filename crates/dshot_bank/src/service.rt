@@ -46,11 +46,8 @@ impl Demand {
     fn expired(self, now_ms: u64) -> bool
         ensures { result ≡ demand_expired now_ms (demand_of self) }
     {
-        self.lease_duration_ms.is_some_and(|duration| command_lease_expired(
-            self.lease_started_ms,
-            duration,
-            now_ms,
-        ))
+        self.lease_duration_ms.is_some_and(|duration| now_ms.wrapping_sub(self.lease_started_ms)
+            > duration)
     }
 }
 

@@ -13,7 +13,7 @@ fn put_demand(out: &mut impl Write, demand: Demand) -> io::Result<()> {
     put::numbers(out, &[demand.lease_started_ms])?;
     match demand.lease_duration_ms {
         None => put::numbers(out, &[0]),
-        Some(duration) => put::numbers(out, &[1, u64::from(duration)]),
+        Some(duration) => put::numbers(out, &[1, duration]),
     }
 }
 
