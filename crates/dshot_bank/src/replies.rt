@@ -3,8 +3,7 @@
 //
 // The replies of the last receive window, and their counts.
 
-ghost use Rattle.std.specs.Prelude.{◌≡◌, ◌<◌, false, map, get_or, unwrap_or};
-ghost use Rattle.std.specs.Option.{is_some};
+ghost use Rattle.std.specs.Prelude.{◌≡◌, ◌<◌, false, map, get_or};
 ghost use Rattle.dshot_reply_spec.specs.Answer.{refused, is_given};
 ghost use Rattle.dshot_reply_spec.specs.Refusals.{no_reply};
 ghost use Rattle.dshot_reply.specs.Answers.{reply_answer};
@@ -130,13 +129,13 @@ impl LaneReply {
 }
 
 // A lane's reply, from its window. Extended telemetry is not enabled yet, so every value except its acknowledgement is read as eRPM.
-fn read_window(captures: &Samples, lane: usize, mask: Option<u16>) -> StoredReply
+fn read_window(captures: &Samples, lane: usize, present: bool, mask: u16) -> StoredReply
     requires { lane < 4 }
-    ensures { stored_answer result ≡ read_window (is_some mask) (window captures.now lane) (unwrap_or mask 0) }
+    ensures { stored_answer result ≡ read_window present (window captures.now lane) mask }
 {
-    let Some(mask) = mask else {
+    if !present {
         return StoredReply::NoReply;
-    };
+    }
     let from = REPLY_WINDOW_SAMPLES * lane;
     let window = &captures[from..from + REPLY_WINDOW_SAMPLES];
     decode_sampled_reply(window, mask, false).into()
@@ -148,8 +147,7 @@ fn read_windows(answers: LaneAnswers, captures: &Samples) -> [StoredReply; LANES
 {
     let mut reads = [StoredReply::NoReply; LANES];
     for lane in 0..LANES {
-        let mask = answers.present[lane].then_some(answers.masks[lane]);
-        reads[lane] = read_window(captures, lane, mask);
+        reads[lane] = read_window(captures, lane, answers.present[lane], answers.masks[lane]);
     }
     reads
 }
