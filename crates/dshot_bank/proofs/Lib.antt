@@ -1,5 +1,6 @@
 pub mod CommandLaws
 pub mod Injective
 pub mod LaneTests
+pub mod LoopLaws
 pub mod OrderLaws
 pub mod ReplyLaws

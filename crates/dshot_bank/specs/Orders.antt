@@ -1,7 +1,8 @@
 -- What the code's orders mean in the terms of the definitions. They are one number, with seven bits for each order, and the first duties beside it.
 -- Stands for the calls of the Rust's trait `DshotLanes`.
 -- Assumes nothing.
-use Rattle.std.specs.Prelude.{◌≡◌, ℕ, zero, suc, ◌+◌, ◌-◌, ◌*◌, ◌/◌, ◌%◌, List, [], ◌∷◌, ◌++◌, length, Option, Some, None, option_map, ◌==◌, if◌then◌else◌}
+use Rattle.std.specs.Prelude.{◌≡◌, ℕ, zero, suc, ◌+◌, ◌*◌, ◌/◌, ◌%◌, List, [], ◌∷◌, ◌++◌, length, Option, Some, None, option_map, ◌==◌, if◌then◌else◌}
+use Rattle.std.specs.Option.{is_some, option_or}
 use Rattle.dshot_bank_spec.specs.Order.{exchange_buffer, start_dma, start_frame, stop_frame, force_outputs_low, pause_and_clear, begin_receive, end_receive}
 use Rattle.dshot_bank_spec.specs.Order as Spec
 use Rattle.dshot_bank_spec.specs.OrderNumber.{code, duties_in}
@@ -60,12 +61,22 @@ kind_at n =
 abbrev pub entry_of : ℕ → Option Order
 entry_of n = option_map (λ (k : OrderKind). record { kind = k; motor = n % 8 }) (kind_at (n / 8))
 
+-- the first order among n numbers; those of no kind before it are passed over
+unfoldable pub first_from : ℕ → ℕ → Option Order
+first_from zero codes = None
+first_from (suc n) codes = option_or (entry_of (codes % 128)) (first_from n (codes / 128))
+
+-- the numbers after it; none if there is no order
+unfoldable pub rest_from : ℕ → ℕ → Orders
+rest_from zero codes = record { count = 0; codes = codes }
+rest_from (suc n) codes = if is_some (entry_of (codes % 128)) then record { count = n; codes = codes / 128 } else rest_from n (codes / 128)
+
 -- the first order; `rest_orders` are those after it
 abbrev pub first_order : Orders → Option Order
-first_order o = if o.count == 0 then None else entry_of (o.codes % 128)
+first_order o = first_from o.count o.codes
 
 abbrev pub rest_orders : Orders → Orders
-rest_orders o = if o.count == 0 then o else record { count = o.count - 1; codes = o.codes / 128 }
+rest_orders o = rest_from o.count o.codes
 
 -- an order by its kind and lane, with the first duties
 abbrev pub order_of : List ℕ → OrderKind → ℕ → Spec.Order

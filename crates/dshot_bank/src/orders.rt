@@ -135,19 +135,23 @@ impl Iterator for Orders {
 
     ghost remaining = { λ s. at_most s.count };
 
-    // The first order, which is taken away. A number of no kind ends the orders; no call gives one.
+    // The first order, which is taken away. A number of no kind before it is passed over; no call gives one. So a loop over orders gives what
+    // `orders_of` lists. If all that is left is zeros, there is no order.
     fn next(&mut self) -> Option<Order> {
-        if self.count == 0 {
-            return None;
+        while self.count > 0 && self.codes > 0 {
+            let entry = self.codes % 128;
+            self.count -= 1;
+            self.codes /= 128;
+            let Some(kind) = OrderKind::of(entry / 8) else {
+                continue;
+            };
+            return Some(Order {
+                kind,
+                motor: (entry % 8) as u8,
+            });
         }
-        let entry = self.codes % 128;
-        self.count -= 1;
-        self.codes /= 128;
-        let kind = OrderKind::of(entry / 8)?;
-        Some(Order {
-            kind,
-            motor: (entry % 8) as u8,
-        })
+        self.count = 0;
+        None
     }
 }
 
