@@ -120,11 +120,11 @@ own-exchange d m h = own_lane d 1 m (exchange_buffer m) h refl (omega arith) ref
 own-paused : (d : List ℕ) (m : ℕ) → m < 8 → Own d (pause_and_clear m)
 own-paused d m h = own_lane d 6 m (pause_and_clear m) h refl (omega arith) refl
 
-motor-small : (m : DshotMotor) → motor_of m < 8
-motor-small Motor1 = omega arith
-motor-small Motor2 = omega arith
-motor-small Motor3 = omega arith
-motor-small Motor4 = omega arith
+pub motor-small : {r : ℕ} (m : DshotMotor) → r ≡ motor_of m → r < 4
+motor-small Motor1 e = omega arith
+motor-small Motor2 e = omega arith
+motor-small Motor3 e = omega arith
+motor-small Motor4 e = omega arith
 
 -- ---- the lists of orders of the calls
 
@@ -186,7 +186,9 @@ whole-quiet l q = whole l (subst (λ (d : List ℕ). Kept d l) q.duties q.kept)
 -- what is ordered behind the pause of the lane
 module _ (m : DshotMotor) where
   behind : (l : List Spec.Order) → Quiet l → Quiet (pause_and_clear (motor_of m) ∷ l)
-  behind l q = quiet-cons (pause_and_clear (motor_of m)) l (own-paused _ (motor_of m) (motor-small m)) refl q
+  behind l q =
+      let small = motor-small {r = motor_of m} m refl in
+      quiet-cons (pause_and_clear (motor_of m)) l (own-paused _ (motor_of m) (omega arith)) refl q
 
   all-lanes : (x : Spec.Order) (l : List Spec.Order) → Own (replicate 4 0) x → duties_in l ≡ duties_in (x ∷ l) → Quiet l → Quiet (pause_and_clear (motor_of m) ∷ x ∷ l)
   all-lanes x l o e q = behind (x ∷ l) (quiet-cons x l o e q)
