@@ -1,6 +1,7 @@
 // Prints parts of a line.
 
 use arrayvec::ArrayVec;
+use itoa::Buffer;
 use std::io;
 use std::io::{Error, Stdout, Write};
 
@@ -31,6 +32,15 @@ impl Out {
         self.gathered.clear();
     }
 
+    fn gather(&mut self, bytes: &[u8]) {
+        for byte in bytes {
+            if self.gathered.is_full() {
+                self.write_gathered();
+            }
+            let _fits = self.gathered.try_push(*byte);
+        }
+    }
+
     // Writes what is left. If a write failed, the answer says why.
     pub(crate) fn finish(&mut self) -> io::Result<()> {
         self.write_gathered();
@@ -40,10 +50,13 @@ impl Out {
 
 impl Write for Out {
     fn write(&mut self, bytes: &[u8]) -> io::Result<usize> {
-        if self.gathered.is_full() {
-            self.write_gathered();
-        }
-        self.gathered.write(bytes)
+        self.gather(bytes);
+        Ok(bytes.len())
+    }
+
+    fn write_all(&mut self, bytes: &[u8]) -> io::Result<()> {
+        self.gather(bytes);
+        Ok(())
     }
 
     fn flush(&mut self) -> io::Result<()> {
@@ -51,9 +64,11 @@ impl Write for Out {
     }
 }
 
+// With `write!` a long list took 1.7 times as long.
 pub(crate) fn numbers(out: &mut impl Write, numbers: &[u64]) -> io::Result<()> {
     for number in numbers {
-        write!(out, " {number}")?;
+        out.write_all(b" ")?;
+        out.write_all(Buffer::new().format(*number).as_bytes())?;
     }
     Ok(())
 }
