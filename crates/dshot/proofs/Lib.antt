@@ -1,1 +1,2 @@
+pub mod WrapLaws
 pub mod Injective
