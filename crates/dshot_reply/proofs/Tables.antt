@@ -12,7 +12,7 @@ use Rattle.dshot_reply_spec.specs.Gcr.{nibble_of, symbol_of}
 use Rattle.dshot_reply.specs.Steps.{Decodes, Encodes}
 
 -- the symbol of a nibble
-abbrev encode_test : List ℕ → ℕ → Bool
+abbrev pub encode_test : List ℕ → ℕ → Bool
 encode_test table n = eqb (get_or table n 0) (symbol_of n)
 
 pub encode_rule : (table : List ℕ) → T (below (encode_test table) 16) → Encodes table
@@ -24,7 +24,7 @@ encode_rule table t = record {
 pub ruleset encode_cases = (encode_rule, nibble-xor)
 
 -- the nibble of a symbol, and 255 for five bits that are none
-abbrev decode_test : List ℕ → ℕ → Bool
+abbrev pub decode_test : List ℕ → ℕ → Bool
 decode_test table s = eqb (get_or table s 0) (nibble_of s)
 
 pub decode_rule : (table : List ℕ) → T (below (decode_test table) 32) → Decodes table
