@@ -32,6 +32,6 @@ pub bit_is : (b : Bool) → from_bool b ≡ bit b
 bit_is true = refl
 bit_is false = refl
 
--- a lane's part of a buffer that holds w slots for each
-pub part-is : (w lane : ℕ) (xs : List ℕ) → take (w * lane + w - w * lane) (drop (w * lane) xs) ≡ part w lane xs
-part-is w lane xs = ap (λ (n : ℕ). take n (drop (w * lane) xs)) (omega arith)
+-- a lane's part of a buffer that holds w slots for each, by the place where it begins
+pub part-is : (w lane from : ℕ) (xs : List ℕ) → from ≡ w * lane → take (from + w - from) (drop from xs) ≡ part w lane xs
+part-is w lane from xs e = rw e (ap (λ (n : ℕ). take n (drop (w * lane) xs)) (omega arith))

@@ -36,4 +36,4 @@ module _ (xs out : List ℕ) (b : Buffers) (motor : ℕ) (n : length xs ≡ Plac
       told_at (sending motor) 16 xs out n l b (slots (sequence_sent (load xs).core b motor))
       (ap (λ (r : Stepped). r.answer) (sending-is e (lt-ltb motor 4 h)))
       refl
-      (q ∙ part-is 16 motor sent ∙ ap (λ (x : List ℕ). take 16 (drop (16 * motor) x)) s ∙ view-is xs b motor h f)
+      (q ∙ part-is 16 motor _ sent refl ∙ ap (λ (x : List ℕ). take 16 (drop (16 * motor) x)) s ∙ view-is xs b motor h f)

@@ -1,6 +1,6 @@
 -- `bank_slots::replies::decode_lane` meets its contract: a lane's window read, and its reply counted.
 -- Assumes nothing.
-use Rattle.std.proofs.Common.{ℕ, ◌+◌, ◌*◌, false, List, get_or, sym, refl, ap, ◌∙◌}
+use Rattle.std.proofs.Common.{ℕ, ◌+◌, ◌*◌, false, List, get_or, sym, refl, ap, ◌∙◌, arith}
 use Rattle.dshot_reply_spec.specs.Answer.{Answer}
 use Rattle.dshot_reply_spec.specs.Value.{Reading}
 use Rattle.dshot_reply_spec.specs.Reading.{sampled_reply}
@@ -31,4 +31,4 @@ returns c =
     let present = sym c.flag.ensures ∙ c.if-not-flag.false in
     c.count_reply-2.ensures
     ∙ ap (λ (r : Answer Reading). write (lane_rows k (count_reply r (lane_from k (at xs)))) xs)
-    (on _ _ present (c.decode_sampled_reply-read.ensures ∙ ap (λ (s : List ℕ). sampled_reply 3 s (get_or lanes (8 + a.lane) 0) false) (part-is 160 a.lane a.captures.now)))
+    (on _ _ present (c.decode_sampled_reply-read.ensures ∙ ap (λ (s : List ℕ). sampled_reply 3 s (get_or lanes (8 + a.lane) 0) false) (part-is 160 a.lane _ a.captures.now (omega arith))))
