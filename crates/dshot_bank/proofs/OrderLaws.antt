@@ -117,7 +117,7 @@ own_lane d q m x hm e hq o =
 own-exchange : (d : List ℕ) (m : ℕ) → m < 8 → Own d (exchange_buffer m)
 own-exchange d m h = own_lane d 1 m (exchange_buffer m) h refl (omega arith) refl
 
-own-paused : (d : List ℕ) (m : ℕ) → m < 8 → Own d (pause_and_clear m)
+pub own-paused : (d : List ℕ) (m : ℕ) → m < 8 → Own d (pause_and_clear m)
 own-paused d m h = own_lane d 6 m (pause_and_clear m) h refl (omega arith) refl
 
 pub motor-small : {r : ℕ} (m : DshotMotor) → r ≡ motor_of m → r < 4
@@ -171,13 +171,13 @@ pub record Quiet (l : List Spec.Order) : Type 0 where
   pub duties : replicate 4 0 ≡ duties_in l
   pub kept : Kept (replicate 4 0) l
 
-quiet_none : Quiet []
+pub quiet_none : Quiet []
 quiet_none = record { duties = refl; kept = refl }
 
-quiet-latched : Quiet (latch_orders 4)
+pub quiet-latched : Quiet (latch_orders 4)
 quiet-latched = record { duties = duties-latched; kept = kept-latched _ }
 
-quiet-cons : (x : Spec.Order) (l : List Spec.Order) → Own (replicate 4 0) x → duties_in l ≡ duties_in (x ∷ l) → Quiet l → Quiet (x ∷ l)
+pub quiet-cons : (x : Spec.Order) (l : List Spec.Order) → Own (replicate 4 0) x → duties_in l ≡ duties_in (x ∷ l) → Quiet l → Quiet (x ∷ l)
 quiet-cons x l o e q = record { duties = q.duties ∙ e; kept = kept_cons _ x l o q.kept }
 
 pub whole-quiet : (l : List Spec.Order) → Quiet l → Whole l
