@@ -59,6 +59,7 @@ impl Write for Out {
         Ok(())
     }
 
+    // What is gathered is written when the room is full, and by `finish`.
     fn flush(&mut self) -> io::Result<()> {
         Ok(())
     }
