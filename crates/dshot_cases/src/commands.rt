@@ -80,3 +80,18 @@ pub(crate) fn constants(fields: &[u64]) -> Option<bool> {
     ];
     Some(constants == *stored)
 }
+
+#[cfg(test)]
+mod tests {
+    use super::*;
+
+    // A record is unreadable even if one of its numbers differs.
+    #[test]
+    fn unreadable_steps(rt: HostRuntime) {
+        assert_eq!(rt; step(&[20, 12, 0, 0, 1, 21]), None);
+        assert_eq!(rt; step(&[20, 12, 0, 0, 1, 21, 20, 12, 0, 255, 7]), None);
+        assert_eq!(rt; step(&[20, 12, 0, 0, 1, 20, 65536, 12, 0, 255]), None);
+        assert_eq!(rt; step(&[20, 12, 0, 0, 1, 21, 20, 12, 0, 255]), Some(false));
+        assert_eq!(rt; step(&[20, 12, 0, 0, 1, 20, 20, 12, 0, 255]), Some(true));
+    }
+}
