@@ -54,6 +54,7 @@ impl Write for Out {
         Ok(bytes.len())
     }
 
+    // All bytes are taken at once, so nothing is left to try again.
     fn write_all(&mut self, bytes: &[u8]) -> io::Result<()> {
         self.gather(bytes);
         Ok(())
