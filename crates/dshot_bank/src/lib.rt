@@ -136,7 +136,7 @@ pub struct DshotStats {
 pub struct Demand {
     pub requested_values: MotorValues,
     pub lease_started_ms: u64,
-    // No call makes a lease that 32 bits don't hold.
+    // No call makes a lease that 32 bits don't hold: `lease-below` of `dshot_bank_spec`.
     pub lease_duration_ms: Option<u64>,
 }
 
