@@ -27,6 +27,7 @@ pub mod LookLaws
 pub mod NewBank
 pub mod FallbackLaws
 pub mod UnchangedFault
+pub mod UnchangedLaws
 pub mod UnchangedLease
 pub mod UnchangedMode
 pub mod UnchangedRun

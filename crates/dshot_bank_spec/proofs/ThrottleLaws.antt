@@ -38,12 +38,13 @@ zeros n i l = get_or-replicate n i 0 0 (omega (arith, length-replicate {A = ℕ}
 
 -- ---- command_throttles
 
+-- what throttles set
+abbrev pub demanded : ℕ → List ℕ → ℕ → ℕ → Demand
+demanded n commands now lease = record { requested_values = throttle_values n commands; lease_started_ms = now; lease_duration_ms = some lease }
+
 module _ (n : ℕ) (s : State) (commands : List ℕ) (now lease : ℕ) where
   abbrev throttled : Stepped
   throttled = step n s (command_throttles_call commands now lease)
-
-  abbrev demanded : Demand
-  demanded = record { requested_values = throttle_values n commands; lease_started_ms = now; lease_duration_ms = some lease }
 
   -- a faulted bank refuses them with 18 whatever they are: document 01, "state in the order 18 to 22, then the rest by number"
   pub throttles-faulted : s.bank.core.frame.faulted ≡ true → throttled ≡ told s (refused 18)
@@ -60,7 +61,8 @@ module _ (n : ℕ) (s : State) (commands : List ℕ) (now lease : ℕ) where
           ∙ either (λ (a : Reply.Answer Core). (commanded s a).answer ≡ done) (not (any_requested commands)) refl refl
 
       -- with one above 0 they are the demand, for a lease from this clock on, and nothing else changes
-      pub throttles-set : (i : ℕ) → i < length commands → 0 < get_or commands i 0 → throttled ≡ changed s done (with_demand demanded s.bank.core)
+      pub throttles-set : (i : ℕ) → i < length commands → 0 < get_or commands i 0
+          → throttled ≡ changed s done (with_demand (demanded n commands now lease) s.bank.core)
       unfolding step port_refusal command_throttles
       throttles-set i l h =
           ap (commanded s) (sym (off _ _ f (off _ _ (none_above 2000 commands low) (off _ _ (ap not (one-above 0 commands i l h)) refl))))
